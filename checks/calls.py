@@ -6,7 +6,9 @@ groups and heights are those of the report of `groups`, the clauses and the call
 place, and the graph has a node for each predicate and an edge for each pair of a caller and a callee. Its clusters are the recursive groups. The
 condensed graph has a node for each group and an edge for each pair of groups between which a call leads. Names with each code point are told
 and read back. Of two hundred programs of checks/random_programs.py, what is marked at predicates is what the reader of checks/evaluator.py finds: whether
-a module file exports them, their declarations, and why reach begins there, also with `--roots`. So are the calls of directives. The cases of checks/rows/calls/ are held against answers that are written by hand. Needs `calls` and `groups`; where `dot` isn't installed it says so, and reads no graph back. Ends with status 1 at the first difference.
+ a module file exports them, their declarations, why reach begins there, also with `--roots`, and whether directives declare them `dynamic` or
+ `multifile`. So are all calls, each with how many arguments are added and whether it is negated. The cases of checks/rows/calls/ are held against answers
+ that are written by hand. Needs `calls` and `groups`; where `dot` isn't installed it says so, and reads no graph back. Ends with status 1 at the first difference.
 
 --xref N takes each Nth `.pl` file of the Prolog packages that are installed, and sets the pairs of a caller and a callee inside its module beside
 those that SWI-Prolog's prolog_xref tells, where `calls` reads it: how many are told by both, and each that is told by one alone (docs/calls.md has the
@@ -35,6 +37,7 @@ ROOT = pathlib.Path(__file__).resolve().parent.parent
 CALLS = str(ROOT / "calls")
 GROUPS = str(ROOT / "groups")
 HAS_DOT = shutil.which("dot") is not None
+PROPERTIES = ("dynamic", "multifile")
 ODD = ["p", "q", "r2", "aB", "", "it's", 'a"b', "back\\slash", "new\nline", "tab\t", "bell\a", "\x7f", "é", "日本"]
 ODD += ["\U0001f600", "a b", "[]", "<N>", "\\n", "{}x"]
 
@@ -52,7 +55,7 @@ def quoted(name):
 
 
 def made(source):
-    """A program of one file: its lines, and of each clause the head, and of each goal the name and the column."""
+    """A program of one file: its lines, and of each clause its extent and the head, and of each goal the column, the name and whether it is negated."""
     names = source.sample(ODD, source.randint(2, len(ODD)))
     heads = [name for name in names if name != "[]"]  # no clause has that head
     lines, clauses, calls = [], [], []
@@ -61,10 +64,11 @@ def made(source):
         line = quoted(head)
         goals = [source.choice(names) for _ in range(source.randint(0, 4))]
         for number, goal in enumerate(goals):
-            line += ", " if number else " :- "
-            calls.append((len(lines) + 1, len(line) + 1, head, goal))
+            negated = source.random() < 0.2
+            line += (", " if number else " :- ") + ("\\+ " if negated else "")
+            calls.append((len(lines) + 1, len(line) + 1, head, goal, 0, negated))
             line += quoted(goal)
-        clauses.append((len(lines) + 1, 1, head))
+        clauses.append((len(lines) + 1, 1, len(lines) + 1, len(line) + 1, head))
         lines.append(line + ".")
     return "\n".join(lines) + "\n", clauses, calls
 
@@ -149,9 +153,9 @@ def one_random(number, folder):
     (folder / "f.pl").write_text(text)
     predicates, told_groups, found, goals = told(["--unreached", "f.pl"], folder)
     names = {line["id"]: line["name"] for line in predicates}
-    if [(line["line"], line["column"], names[line["predicate"]]) for line in found] != clauses:
+    if [(line["line"], line["column"], line["end_line"], line["end_column"], names[line["predicate"]]) for line in found] != clauses:
         sys.exit(f"random program {number}: other clauses")
-    if [(line["line"], line["column"], names[line["caller"]], line["name"]) for line in goals] != calls:
+    if [(line["line"], line["column"], names[line["caller"]], line["name"], line["added"], line["negated"]) for line in goals] != calls:
         sys.exit(f"random program {number}: other calls")
     for line in goals:
         means = [name for name in names.values() if name == line["name"]]
@@ -171,60 +175,71 @@ def one_random(number, folder):
 
 
 def marked(program, roots):
-    """What the line of each predicate of the program says of it: whether it is exported, its declaration, and why reach begins there."""
-    exported, declared = set(), {}
+    """What the line of each predicate of the program says of it: whether it is exported, its declaration, why reach begins there, and its properties."""
+    exported, declared, properties = set(), {}, set()
     for source in program.in_order():
         if source.module_position is not None:
             exported.update((source.module, *key) for key in source.keys())
         for key, arguments in source.declarations:
             declared.setdefault(key, list(arguments))
+        properties.update(source.properties)
     by_export, by_file = set(), set()
     for source in map(program.sources.get, program.named):
         if source.module_position is not None:
             by_export.update((source.module, *key) for key in source.keys())
         else:
-            by_file.update([clause.key for clause in source.clauses] + source.dynamic)
+            by_file.update([clause.key for clause in source.clauses] + source.bare())
     reasons = {"export": by_export, "directive": program.started, "file": by_file} if roots is None else {"roots": roots}
-    return {key: (key in exported, declared.get(key), [word for word, keys in reasons.items() if key in keys]) for key in program.predicates}
+    return {
+        key: (key in exported, declared.get(key), [word for word, keys in reasons.items() if key in keys], *((word, key) in properties for word in PROPERTIES))
+        for key in program.predicates
+    }
 
 
 class Program(evaluator.Program):
-    """A program that notes each call of a goal of a directive: its file, line and column, its module, name and number of arguments, and what it means."""
+    """A program that notes each call of a goal: its position, its module, name and number of arguments, how many of them are added, whether it is
+    negated, and what it means."""
 
     def __init__(self, names, read):
         self.met = []
         super().__init__(names, read)
 
-    def call(self, goal, module, added, stack):
-        answer = super().call(goal, module, added, stack)
-        self.met.append((goal.position, module, *answer))
+    def call(self, goal, module, added, negated, stack):
+        answer = super().call(goal, module, added, negated, stack)
+        name, arity, meant = answer
+        self.met.append((goal.position, module, name, arity, added, negated, meant))
         return answer
 
-    def directives(self):
-        found = set()
-        for source in self.in_order():
-            for goal in source.goals:
-                self.met = []
-                list(self.calls(source, goal, False, []))
-                for position, module, name, arity, meant in self.met:
-                    _, line, column, _ = source.line(position, "")[len(source.name):].split(":")
-                    found.add((source.name, int(line), int(column), module, name, arity, meant))
-        return found
+    def calls_in(self, source, body, is_grammar):
+        """The calls of a body, each with its file, line and column in place of its position."""
+        self.met = []
+        list(self.calls(source, body, is_grammar, []))
+        for position, *said in self.met:
+            _, line, column, _ = source.line(position, "")[len(source.name):].split(":")
+            yield source.name, int(line), int(column), *said
+
+    def of_clauses(self):
+        return {(clause.key, *it) for source in self.in_order() for clause in source.clauses if clause.body
+                for it in self.calls_in(source, clause.body, clause.is_grammar)}
+
+    def of_directives(self):
+        return {(None, *it) for source in self.in_order() for goal in source.goals for it in self.calls_in(source, goal, False)}
 
 
-def directives_told(calls, keys):
-    """The same as `calls` tells it; its lines come by file and position, each once."""
-    lines = [it for it in calls if it["caller"] is None]
-    if any(it.get("directive") is not True for it in lines) or any("directive" in it for it in calls if it["caller"] is not None):
+def calls_told(calls, keys):
+    """The same as `calls` tells it: first of clauses and then of directives, each by file and position and once."""
+    if any((it["caller"] is None) != (it.get("directive") is True) for it in calls):
         sys.exit(f"calls without a caller are those of directives: {calls}")
-    told = [(it["file"], it["line"], it["column"], it["module"], it["name"], it["arity"], keys.get(it["callee"])) for it in lines]
-    if len(set(told)) != len(told) or [it[:3] for it in told] != sorted(it[:3] for it in told):
-        sys.exit(f"calls of directives out of order: {told}")
+    told = [(keys.get(it["caller"]), it["file"], it["line"], it["column"], it["module"], it["name"], it["arity"], it["added"], it["negated"],
+             keys.get(it["callee"])) for it in calls]
+    places = [(it[0] is None, *it[1:4]) for it in told]
+    if len(set(told)) != len(told) or places != sorted(places):
+        sys.exit(f"calls out of order: {told}")
     return set(told)
 
 
 def marks_beside_reader(made, source, folder):
-    """How many predicates the program has, if it has no errors: their lines, and the calls of directives, say what the reader of evaluator.py finds."""
+    """How many predicates the program has, if it has no errors: their lines, and those of all calls, say what the reader of evaluator.py finds."""
     for name, data in made.files.items():
         (folder / name).parent.mkdir(parents=True, exist_ok=True)
         (folder / name).write_bytes(data)
@@ -238,12 +253,12 @@ def marks_beside_reader(made, source, folder):
     for roots in (None, given) if given else (None,):
         words = ["--roots", ",".join(f"{key[0]}:{key[1]}/{key[2]}" for key in sorted(given))] if roots else []
         predicates, _, _, calls = told([*words, "--unreached", *files], folder)
-        lines = {(it["module"], it["name"], it["arity"]): (it["exported"], it["meta"], it["root"]) for it in predicates}
+        lines = {(it["module"], it["name"], it["arity"]): (it["exported"], it["meta"], it["root"], *(it[word] for word in PROPERTIES)) for it in predicates}
         if lines != marked(program, roots):
             sys.exit(f"{words} {files} {made.files}: {lines} beside {marked(program, roots)}")
         keys = {it["id"]: (it["module"], it["name"], it["arity"]) for it in predicates}
-        if directives_told(calls, keys) != program.directives():
-            sys.exit(f"{words} {files} {made.files}: {directives_told(calls, keys)} beside {program.directives()}")
+        if calls_told(calls, keys) != program.of_clauses() | program.of_directives():
+            sys.exit(f"{words} {files} {made.files}: {calls_told(calls, keys)} beside {program.of_clauses() | program.of_directives()}")
     return len(program.predicates)
 
 

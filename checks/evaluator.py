@@ -550,13 +550,17 @@ class Source:
     exports: list = field(default_factory=list)
     loads: list = field(default_factory=list)
     clauses: list = field(default_factory=list)
-    dynamic: list = field(default_factory=list)
+    properties: list = field(default_factory=list)
     declarations: list = field(default_factory=list)
     goals: list = field(default_factory=list)
 
     def keys(self):
         """Names and numbers of arguments of the exports."""
         return {(export.name, export.arity) for export in self.exports}
+
+    def bare(self):
+        """What `dynamic` and `multifile` declare, and so define."""
+        return [key for _, key in self.properties]
 
     def line(self, position, text):
         row = self.text.count("\n", 0, position) + 1
@@ -720,7 +724,7 @@ class Analysis:
         elif key in (("ensure_loaded", 1), ("consult", 1)):
             self.load(arguments[0], False, None)
         elif key in (("dynamic", 1), ("multifile", 1)):
-            self.define(arguments[0])
+            self.define(name, arguments[0])
         elif key == ("meta_predicate", 1):
             self.declare(arguments[0])
         elif key not in NOTHING and key != ("op", 3):
@@ -760,7 +764,7 @@ class Analysis:
             raise SourceError(specification.position, "file name is expected")
         return name
 
-    def define(self, term):
+    def define(self, word, term):
         stack = [(term, self.source.module, True)]
         while stack:
             part, module, may_be_several = stack.pop()
@@ -771,7 +775,7 @@ class Analysis:
             elif part.is_form(":", 2) and part.arguments[0].is_atom():
                 stack.append((part.arguments[1], part.arguments[0].name, True))
             else:
-                self.source.dynamic.append(self.predicate(part, module))
+                self.source.properties.append((word, self.predicate(part, module)))
 
     def predicate(self, term, module):
         name, arity = indicator(term) or (None, None)
@@ -894,7 +898,7 @@ class Program:
     def collect(self):
         """The predicates of the program, each with no call yet."""
         for source in self.in_order():
-            for key in [clause.key for clause in source.clauses] + source.dynamic:
+            for key in [clause.key for clause in source.clauses] + source.bare():
                 self.predicates.setdefault(key, set())
         if len(self.predicates) > MAXIMUM_PREDICATES:
             raise Refusal(6, [f"groups: more than {MAXIMUM_PREDICATES} predicates"])
@@ -976,38 +980,38 @@ class Program:
 
     def calls(self, source, body, is_grammar, errors):
         """The calls of a body: name, number of arguments, and the predicate that is meant or None."""
-        stack = [(body, source.module, 0, is_grammar)]
+        stack = [(body, source.module, 0, False, is_grammar)]
         while stack:
-            goal, module, added, is_grammar = stack.pop()
+            goal, module, added, negated, is_grammar = stack.pop()
             if goal.is_form(":", 2):
                 qualifier = goal.arguments[0]
                 if qualifier.is_atom():
-                    stack.append((goal.arguments[1], qualifier.name, added, is_grammar))
+                    stack.append((goal.arguments[1], qualifier.name, added, negated, is_grammar))
                 elif qualifier.kind != "variable":
                     errors.append((source, qualifier.position))
             elif is_grammar:
-                self.grammar_body(source, goal, module, stack, errors)
+                self.grammar_body(source, goal, module, negated, stack, errors)
             elif goal.kind in NOT_CALLABLE:
                 errors.append((source, goal.position))
             elif goal.is_callable():
                 if added == 0 and (goal.name, len(goal.arguments)) in GOAL_CONTROL:
-                    stack.extend((argument, module, 0, False) for argument in goal.arguments)
+                    stack.extend((argument, module, 0, negated or goal.name == "\\+", False) for argument in goal.arguments)
                 else:
-                    yield self.call(goal, module, added, stack)
+                    yield self.call(goal, module, added, negated, stack)
 
     @staticmethod
-    def grammar_body(source, goal, module, stack, errors):
+    def grammar_body(source, goal, module, negated, stack, errors):
         if goal.kind in ("integer", "negative", "float"):
             errors.append((source, goal.position))
         elif goal.kind == "curly":
-            stack.append((goal.arguments[0], module, 0, False))
+            stack.append((goal.arguments[0], module, 0, negated, False))
         elif goal.is_callable() and not (goal.is_atom() and goal.name in ("[]", "{}", "!")):
             if (goal.name, len(goal.arguments)) in GOAL_CONTROL:
-                stack.extend((argument, module, 0, True) for argument in goal.arguments)
+                stack.extend((argument, module, 0, negated or goal.name == "\\+", True) for argument in goal.arguments)
             else:
-                stack.append((goal, module, 2, False))
+                stack.append((goal, module, 2, negated, False))
 
-    def call(self, goal, module, added, stack):
+    def call(self, goal, module, added, negated, stack):
         """The call of an atom or a compound term; puts the goals among its written arguments on the stack."""
         arity = len(goal.arguments) + added
         meant = self.meant(module, goal.name, arity)
@@ -1020,7 +1024,7 @@ class Program:
                 while meaning == "^" and argument.is_form("^", 2):
                     argument = argument.arguments[1]
                 more = meaning if isinstance(meaning, int) else 0
-                stack.append((argument, module, more, meaning == "//"))
+                stack.append((argument, module, more, negated, meaning == "//"))
         return goal.name, arity, meant
 
     def roots(self):
@@ -1032,7 +1036,7 @@ class Program:
                 roots.update((source.module, export.name, export.arity) for export in source.exports)
             else:
                 roots.update(clause.key for clause in source.clauses)
-                roots.update(source.dynamic)
+                roots.update(source.bare())
         return roots
 
     def import_loops(self):

@@ -105,19 +105,22 @@ def many_files(folder):
 def predicate_line(number, name, group, height, recursive):
     """Of a predicate that a file of the command line defines which is no module file."""
     own = f'{{"is":"predicate","id":{number},"module":"user","name":"{name}","arity":0,"group":{group},"height":{height},"recursive":{recursive}'
-    return own + ',"exported":false,"meta":null,"root":["file"]}\n'
+    return own + ',"exported":false,"meta":null,"root":["file"],"dynamic":false,"multifile":false}\n'
 
 
 def group_line(least, height, recursive, members):
     return f'{{"is":"group","id":{least},"height":{height},"recursive":{recursive},"members":[{",".join(map(str, members))}]}}\n'
 
 
-def clause_line(predicate, file, line):
-    return f'{{"is":"clause","predicate":{predicate},"file":"{file}","line":{line},"column":1}}\n'
+def clause_line(predicate, file, line, term):
+    """Of a clause that stands in a line of its own."""
+    start = f'{{"is":"clause","predicate":{predicate},"file":"{file}","line":{line},"column":1'
+    return start + f',"end_line":{line},"end_column":{len(term) + 1}}}\n'
 
 
 def call_line(caller, callee, name, file, line, column):
-    return f'{{"is":"call","caller":{caller},"callee":{callee},"module":"user","name":"{name}","arity":0,"file":"{file}","line":{line},"column":{column}}}\n'
+    own = f'{{"is":"call","caller":{caller},"callee":{callee},"module":"user","name":"{name}","arity":0'
+    return own + f',"file":"{file}","line":{line},"column":{column},"added":0,"negated":false}}\n'
 
 
 def expect_lines(what, found, parts):
@@ -132,7 +135,7 @@ def listed_facts(folder, calls):
     predicates = [predicate_line(number, name, number, 0, "false") for number, name in enumerate(names)]
     groups = (group_line(number, 0, "false", [number]) for number in range(MOST))
     half = MOST // 2
-    clauses = (clause_line(ids[f"p{number}"], f"f{number // half}.pl", number % half + 1) for number in range(MOST))
+    clauses = (clause_line(ids[f"p{number}"], f"f{number // half}.pl", number % half + 1, f"p{number}") for number in range(MOST))
     expect_lines("facts, listed", run(folder, "f0.pl", "f1.pl", tool=calls), (predicates, groups, clauses))
     expect("facts, undefined calls", run(folder, "--undefined", "f0.pl", "f1.pl", tool=calls), (0, b"", b""))
 
@@ -144,7 +147,7 @@ def listed_ring(folder, calls):
     ids = {name: number for number, name in enumerate(names)}
     places = [(f"p{number}", f"p{(number + 1) % size}", files[number * 4 // size], number % (size // 4) + 1) for number in range(size)]
     predicates = [predicate_line(number, name, 0, 0, "true") for number, name in enumerate(names)]
-    clauses = (clause_line(ids[name], file, line) for name, _, file, line in places)
+    clauses = (clause_line(ids[name], file, line, f"{name} :- {next}") for name, next, file, line in places)
     made = (call_line(ids[name], ids[next], next, file, line, len(name) + 5) for name, next, file, line in places)
     expect_lines("a ring, listed", run(folder, *files, tool=calls), (predicates, [group_line(0, 0, "true", range(size))], clauses, made))
     status, out, err = run(folder, "--dot", *files, tool=calls)
@@ -156,7 +159,7 @@ def listed_names(folder, calls):
     """`calls` on 5,000 calls with names of 200 characters, and on as many files as may be named."""
     names = [f"{number:05}".rjust(200, "a") for number in range(5_000)]
     (folder / "long.pl").write_text("".join(f"p :- {name}.\n" for name in names))
-    clauses = (clause_line(0, "long.pl", number + 1) for number in range(len(names)))
+    clauses = (clause_line(0, "long.pl", number + 1, f"p :- {name}") for number, name in enumerate(names))
     made = (call_line(0, "null", name, "long.pl", number + 1, 6) for number, name in enumerate(names))
     expect_lines("long names, listed", run(folder, "long.pl", tool=calls), ([predicate_line(0, "p", 0, 0, "false")], [group_line(0, 0, "false", [0])], clauses, made))
     status, out, err = run(folder, *(f"n{number}.pl" for number in range(MOST_FILES)), tool=calls)

@@ -14,9 +14,10 @@ use Rattle.call_edges.proofs.MeantLemmas.{meant_small}
 use Rattle.call_edges.proofs.PartLemmas.{part_count}
 use Rattle.module_table.specs.declared.goal_arg.GoalArg.{GoalArg}
 use Rattle.module_table.specs.declared.goal_arg.GoalArg.TheVariants.{Plain, Goal, Caret, Grammar}
+use Rattle.call_edges.specs.declared.role.Role.{Role}
 use Rattle.call_edges.specs.declared.role.Row.{Row}
 use Rattle.call_edges.specs.declared.role.Way.{Way}
-use Rattle.call_edges.specs.declared.role.Way.TheVariants.{Silent, Behind, Control, Qualified, Calling}
+use Rattle.call_edges.specs.declared.role.Way.TheVariants.{Silent, Behind, Control, Negation, Qualified, Calling}
 use Rattle.module_table.specs.Metas.{IsSmall, added}
 use Rattle.import_rules.specs.Program.{Seen, IsKnown, meta_meant}
 use Rattle.call_edges.specs.ProgramRows.{standing_by, rows_of}
@@ -106,34 +107,38 @@ rows_within seen known = record {
   each = λ owner name n. standing_within (row name n) (meta_meant seen owner name n) n (row_within name n) (meant_small seen known owner name n);
 }
 
-settled_within : (role : GoalArg) → added (settled role) ≤ added role
+settled_within : (arg : GoalArg) → added (settled arg) ≤ added arg
 settled_within Plain = omega arith
 settled_within (Goal e) = omega arith
 settled_within Caret = omega arith
 settled_within Grammar = omega arith
 
 module _ (T : Rows) (within : RowsWithin T) where
-  named_within : (owner : List ℕ) (role : GoalArg) (tree : Tree) (found : Option (List ℕ)) (n : ℕ) → added role ≤ n → IsWithin n (goal_named owner role tree found).standing
-  named_within owner role tree (Some name) n small = second_within n (settled role) (omega (arith, settled_within role, small))
+  named_within : (owner : List ℕ) (role : Role) (tree : Tree) (found : Option (List ℕ)) (n : ℕ) → added role.arg ≤ n → IsWithin n (goal_named owner role tree found).standing
+  named_within owner role tree (Some name) n small = second_within n (settled role.arg) (omega (arith, settled_within role.arg, small))
   named_within owner role tree None n small = none_within n
 
-  qualified_within : (owner : List ℕ) (role : GoalArg) (args : List Tree) (n : ℕ) → added role ≤ n → IsWithin n (qualified_taken owner role args).standing
+  qualified_within : (owner : List ℕ) (role : Role) (args : List Tree) (n : ℕ) → added role.arg ≤ n → IsWithin n (qualified_taken owner role args).standing
   qualified_within owner role [] n small = none_within n
   qualified_within owner role (tree ∷ trees) n small = named_within owner role tree (atom_name tree) n small
 
-  by_within : (w : Way) (at : ℕ) (owner : List ℕ) (role : GoalArg) (name : List ℕ) (args : List Tree) → IsWithin (length args + added role) (taken_by T w at owner role name args).standing
-  by_within Silent at owner role name args = none_within (length args + added role)
-  by_within Behind at owner role name args = second_within (length args + added role) Caret (omega arith)
+  by_within : (w : Way) (at : ℕ) (owner : List ℕ) (role : Role) (name : List ℕ) (args : List Tree)
+      → IsWithin (length args + added role.arg) (taken_by T w at owner role name args).standing
+  by_within Silent at owner role name args = none_within (length args + added role.arg)
+  by_within Behind at owner role name args = second_within (length args + added role.arg) Caret (omega arith)
   by_within Control at owner role name args =
-      let small : added (settled role) ≤ length args + added role = omega (arith, settled_within role) in
-      role_within (length args + added role) (first_two (settled role)) small small (omega arith)
-  by_within Qualified at owner role name args = qualified_within owner role args (length args + added role) (omega arith)
-  by_within Calling at owner role name args = within.each owner name (length args + added role)
+      let small : added (settled role.arg) ≤ length args + added role.arg = omega (arith, settled_within role.arg) in
+      role_within (length args + added role.arg) (first_two (settled role.arg)) small small (omega arith)
+  by_within Negation at owner role name args =
+      let small : added (settled role.arg) ≤ length args + added role.arg = omega (arith, settled_within role.arg) in
+      first_within (length args + added role.arg) (settled role.arg) small
+  by_within Qualified at owner role name args = qualified_within owner role args (length args + added role.arg) (omega arith)
+  by_within Calling at owner role name args = within.each owner name (length args + added role.arg)
 
   -- what is added to an argument and ten times its weight are no more than what is added to the compound and ten times the weight of all its arguments
-  pub argument_within : (at : ℕ) (owner : List ℕ) (role : GoalArg) (name : List ℕ) (args : Trees) (i : ℕ) (tree : Tree) → slice_get (trees_in args) i ≡ Some tree
-      → added (role_at (taken T at owner role name (trees_in args)).standing i) + 10 * weight tree ≤ added role + 10 * weights args
+  pub argument_within : (at : ℕ) (owner : List ℕ) (role : Role) (name : List ℕ) (args : Trees) (i : ℕ) (tree : Tree) → slice_get (trees_in args) i ≡ Some tree
+      → added (role_at (taken T at owner role name (trees_in args)).standing i) + 10 * weight tree ≤ added role.arg + 10 * weights args
   argument_within at owner role name args i tree is =
       let parts = trees_in args in
-      let few = (by_within (way role name (length parts)) at owner role name parts).each i in
+      let few = (by_within (way role.arg name (length parts)) at owner role name parts).each i in
       omega (arith, few, part_count args i tree is, slice_get_within parts i tree is)

@@ -13,12 +13,12 @@ use Rattle.module_table.specs.Defined.{Predicate}
 use Rattle.module_table.specs.Facts.{Facts}
 use Rattle.file_library.specs.Loaded.{NamedText}
 use Rattle.import_rules.specs.Program.{Seen, places_in, IsKnown, IsReadFrom}
-use Rattle.call_edges.specs.Goals.{call, Place}
+use Rattle.call_edges.specs.Goals.{Place}
 use Rattle.call_edges.specs.ProgramRows.{rows_of}
 use Rattle.call_edges.specs.Calls.{body_of}
 use Rattle.call_edges.specs.Bodies.{Body, body_in, clause_bodies, bodies_at}
 use Rattle.file_library.specs.Spots.{StandsInText}
-use Rattle.call_edges.specs.CallPlaces.{CallAt, IsCallOf, AreCallsOf}
+use Rattle.call_edges.specs.CallPlaces.{CallAt, IsCallOf, AreCallsOf, met_of}
 use Rattle.call_edges.proofs.AmongLemmas.{flat_has, among_given}
 use Rattle.call_edges.proofs.BodyLemmas.{places_there, bodies_there}
 use Rattle.call_edges.proofs.OffsetLemmas.{by_stands, goal_stands}
@@ -59,11 +59,10 @@ node_stands seen caller c known among =
     let body = body_stands text.0.1 place.one.0 there.file.module_ there.predicate.clauses among.one clauses
     (subst (λ (bs : List Body). Contains bs among.one) (bodies_there seen.loaded.files place.one there.file there.predicate there.at_place there.at_part) place.is) in
     let called = among.is in
-    let c_met = call c.offset c.callee.module c.callee.name c.callee.arity in
     record {
       text = text.0;
       is = ap (slice_get seen.loaded.texts) (called.in_file ∙ body.1) ∙ text.1;
-      stands = goal_stands text.0.1 (rows_of seen) among.one.at c_met body.0 called.met;
+      stands = goal_stands text.0.1 (rows_of seen) among.one.at (met_of c) body.0 called.met;
     }
 
 -- each call of predicates stands in its text

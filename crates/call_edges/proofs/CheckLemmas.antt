@@ -29,8 +29,7 @@ use Rattle.import_rules.specs.Program.{Seen, places_in, places_at, IsKnown}
 use Rattle.import_rules.proofs.PartsSoFar.{element_at}
 use Rattle.call_edges.specs.declared.piece.OpenedPiece.{OpenedPiece}
 use Rattle.call_edges.specs.declared.piece.Piece.{Piece}
-use Rattle.module_table.specs.declared.goal_arg.GoalArg.TheVariants.{Goal}
-use Rattle.call_edges.specs.Goals.{fault, place, Rows, IsMet, Adds}
+use Rattle.call_edges.specs.Goals.{fault, place, goal_role, Rows, IsMet, Adds}
 use Rattle.call_edges.specs.ProgramRows.{rows_of}
 use Rattle.call_edges.specs.Calls.{IsAmong, IsMetInClause, IsMetAt}
 use Rattle.call_edges.specs.Bodies.{body_in, bodies_at, bodies_in, goals_of_file, goals_in}
@@ -215,7 +214,7 @@ goal_met_there seen p among =
     let files = seen.loaded.files in
     let of_file = (among_flat (IsFaultIn (rows_of seen)) goals_of_file (enumerate_from 0 files) p).0 among in
     let at = of_file.one in
-    let of_goal = (among_map (IsFaultIn (rows_of seen)) (λ goal. body_in at.0 (place at.1.module_ (Goal 0) goal)) at.1.goals p).0 of_file.is in
+    let of_goal = (among_map (IsFaultIn (rows_of seen)) (λ goal. body_in at.0 (place at.1.module_ goal_role goal)) at.1.goals p).0 of_file.is in
     record {
       file = at.1;
       is = ap (slice_get files) of_goal.is.in_file ∙ enumerated files at of_file.has;
@@ -223,7 +222,7 @@ goal_met_there seen p among =
     }
 
 met_goal : (seen : Seen) (p : ℕ × ℕ) (file : Facts) → slice_get seen.loaded.files p.0 ≡ Some file
-    → IsAmong (λ goal. IsMet (rows_of seen) (place file.module_ (Goal 0) goal)) file.goals (fault p.1) → IsAmong (IsFaultIn (rows_of seen)) (goals_in seen.loaded.files) p
+    → IsAmong (λ goal. IsMet (rows_of seen) (place file.module_ goal_role goal)) file.goals (fault p.1) → IsAmong (IsFaultIn (rows_of seen)) (goals_in seen.loaded.files) p
 met_goal seen p file here among =
     let files = seen.loaded.files in
     (among_flat (IsFaultIn (rows_of seen)) goals_of_file (enumerate_from 0 files) p).1
@@ -231,7 +230,7 @@ met_goal seen p file here among =
       one = (p.0, file);
       has = numbered files p.0 file here;
       is =
-          (among_map (IsFaultIn (rows_of seen)) (λ goal. body_in p.0 (place file.module_ (Goal 0) goal)) file.goals p).1
+          (among_map (IsFaultIn (rows_of seen)) (λ goal. body_in p.0 (place file.module_ goal_role goal)) file.goals p).1
           (record { one = among.one; has = among.has; is = record { in_file = refl; met = among.is } });
     })
 

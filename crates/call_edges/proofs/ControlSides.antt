@@ -7,16 +7,16 @@ use Rattle.prolog_terms.specs.Views.{Binary, binary, trees_in}
 use Rattle.prolog_terms.specs.Weight.{weight}
 use Rattle.prolog_terms.proofs.ViewLemmas.{some_once, some_none}
 use Rattle.module_table.specs.declared.goal_arg.GoalArg.{GoalArg}
+use Rattle.call_edges.specs.declared.role.Role.{Role}
 use Rattle.call_edges.specs.declared.role.Way.TheVariants.{Control}
-use Rattle.call_edges.specs.Goals.{Met, place, Rows, Taken, taken, taken_by, first_two as both_in, settled, way, AddsMet}
+use Rattle.call_edges.specs.Goals.{Met, place, Rows, Taken, taken, taken_by, unmet, by_row, first_two as both_in, settled, way, AddsMet}
 use Rattle.call_edges.specs.PlainCalls.{AreSides}
 use Rattle.call_edges.proofs.MetLemmas.{first_two}
-use Rattle.call_edges.proofs.TakenLemmas.{silent_by}
 use Rattle.call_edges.proofs.WalkLemmas.{paren_walked, compound_walked}
 
-module _ (role : GoalArg) (stays : settled role ≡ role) where
+module _ (role : Role) (stays : settled role.arg ≡ role.arg) where
   abbrev IsParted : Tree → Binary → Type 0
-  IsParted tree pair = way role pair.name 2 ≡ Control → AreSides role tree pair.left pair.right
+  IsParted tree pair = way role.arg pair.name 2 ≡ Control → AreSides role tree pair.left pair.right
 
   compound_parted : (name : List ℕ) (left right : Tree) (form : Form) (span : Span)
       → IsParted (compound name (more left (more right none)) form span) (record { name = name; left = left; right = right })
@@ -25,10 +25,10 @@ module _ (role : GoalArg) (stays : settled role ≡ role) where
     adds = λ T owner old mid new first second.
         let args = more left (more right none) in
         let parts = left ∷ right ∷ [] in
-        let apart : Taken = silent_by owner (both_in (settled role)) in
+        let apart : Taken = unmet owner (by_row (both_in (settled role.arg))) role.negated in
         let is : apart ≡ taken T span.from owner role name parts = sym (ap (λ w. taken_by T w span.from owner role name parts) control) in
-        let P : GoalArg → Type 0 = λ r. AddsMet T (place owner r left) old mid in
-        let Q : GoalArg → Type 0 = λ r. AddsMet T (place owner r right) mid new in
+        let P : GoalArg → Type 0 = λ arg. AddsMet T (place owner (record { arg = arg; negated = role.negated }) left) old mid in
+        let Q : GoalArg → Type 0 = λ arg. AddsMet T (place owner (record { arg = arg; negated = role.negated }) right) mid new in
         compound_walked T owner role (compound name args form span) old new name args form span apart parts 2 refl refl is (omega arith)
         (first_two T apart args left right old old mid new refl (sym (append-nil old)) (subst P (sym stays) first) (subst Q (sym stays) second));
   }

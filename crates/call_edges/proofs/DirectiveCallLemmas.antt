@@ -12,10 +12,10 @@ use Rattle.file_library.specs.Spots.{StandsInText}
 use Rattle.import_rules.specs.Program.{Seen, IsKnown}
 use Rattle.call_edges.specs.declared.placed_calls.PlacedCall.{PlacedCall}
 use Rattle.call_edges.specs.Bodies.{Body, goal_body, goals_in, goals_of_file}
-use Rattle.call_edges.specs.CallPlaces.{CallAt, IsCalledIn}
+use Rattle.call_edges.specs.CallPlaces.{CallAt, IsCalledIn, met_of}
 use Rattle.call_edges.specs.Calls.{IsAmong}
 use Rattle.call_edges.specs.DirectiveCalls.{AreDirectiveCalls, IsDirectiveCall, no_caller}
-use Rattle.call_edges.specs.Goals.{Adds, call}
+use Rattle.call_edges.specs.Goals.{Adds}
 use Rattle.call_edges.specs.PlacedSeen.{see_calls}
 use Rattle.call_edges.specs.ProgramRows.{rows_of}
 use Rattle.call_edges.proofs.AmongLemmas.{flat_has, map_has}
@@ -51,7 +51,7 @@ call_stands seen c known among =
     record {
       text = text.0;
       is = ap (slice_get seen.loaded.texts) (called.in_file ∙ sym file) ∙ text.1;
-      stands = goal_stands text.0.1 (rows_of seen) among.one.at (call c.offset c.callee.module c.callee.name c.callee.arity) here called.met;
+      stands = goal_stands text.0.1 (rows_of seen) among.one.at (met_of c) here called.met;
     }
 
 pub directive_calls_stand : (seen : Seen) (calls : List CallAt) → IsKnown seen → AreDirectiveCalls seen calls

@@ -25,7 +25,7 @@ abbrev pub IsFaultOf : ℕ → List Met → ℕ × ℕ → Type 0
 IsFaultOf file met p = (p.0 ≡ file) × Contains met (fault p.1)
 
 fault_is : (m : Met) (at : ℕ) → fault_at m ≡ Some at → m ≡ fault at
-fault_is (call from owner name arity) at is = absurd (none-some at is)
+fault_is (call from owner name arity more negated) at is = absurd (none-some at is)
 fault_is (fault n) at is = ap (λ k. fault k) (same_Some n at is)
 
 -- one more

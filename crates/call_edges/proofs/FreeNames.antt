@@ -1,5 +1,5 @@
 -- A free name is none of the known names: it is no control construct, and the table has no row for it.
-use Rattle.std.proofs.Common.{◌≡◌, ◌≢◌, ℕ, ◌<◌, ◌==◌, Bool, true, false, ◌&&◌, ◌||◌, List, [], ◌∷◌, Some, None, if◌then◌else◌, codes, refl, sym, ap, ◌∙◌, arith}
+use Rattle.std.proofs.Common.{◌≡◌, ◌≢◌, ℕ, ◌<◌, ◌==◌, Bool, true, false, not, ◌&&◌, ◌||◌, List, [], ◌∷◌, Some, None, if◌then◌else◌, codes, refl, sym, ap, ◌∙◌, arith}
 use Rattle.std.specs.Str.{bytes_eq}
 use Rattle.std.proofs.lemmas.Bool.{false_from_ne_true}
 use Rattle.std.proofs.lemmas.Slice.Eq.{bytes_eq-Decides}
@@ -10,7 +10,8 @@ use Rattle.module_table.specs.declared.goal_arg.GoalArg.{GoalArg}
 use Rattle.module_table.specs.declared.goal_arg.GoalArg.TheVariants.{Plain, Goal, Caret, Grammar}
 use Rattle.call_edges.specs.declared.role.Way.TheVariants.{Calling}
 use Rattle.module_table.specs.Metas.{added}
-use Rattle.call_edges.specs.Goals.{call, adding_row, atom_met, one_row, two_row, three_row, four_row, row, is_control, goal_way, way}
+use Rattle.call_edges.specs.declared.role.Role.{Role}
+use Rattle.call_edges.specs.Goals.{call, adding_row, atom_met, calls_atom, one_row, two_row, three_row, four_row, row, is_control, is_negation, goal_way, way}
 
 -- it is none of the known names, unless it is the empty one, which has a number of its own too
 abbrev pub IsFree : List ℕ → Type 0
@@ -86,21 +87,24 @@ module _ (name : List ℕ) (free : IsFree name) where
 
   control_none : (count : ℕ) → is_control name count ≡ false
   control_none count =
-      (λ i. (count == 2
+      (λ i. count == 2
       && none_in (codes ",") (codes ";" ∷ codes "|" ∷ codes "->" ∷ []) (not_word 1 (codes ",") (omega arith) refl (λ e. cc))
       (none_in (codes ";") (codes "|" ∷ codes "->" ∷ []) (not_word 20 (codes ";") (omega arith) refl (λ e. cc))
       (none_in (codes "|") (codes "->" ∷ []) (not_word 2 (codes "|") (omega arith) refl (λ e. cc))
       (none_in (codes "->") [] (not_word 21 (codes "->") (omega arith) refl (λ e. cc)) refl))) i)
-      || (count == 1 && no_word 15 (codes "\\+") (omega arith) refl (λ e. cc) i))
-      ∙ (λ i. and-false (count == 2) i || and-false (count == 1) i)
+      ∙ and-false (count == 2)
+
+  negation_none : (count : ℕ) → is_negation name count ≡ false
+  negation_none count = (λ i. count == 1 && no_word 15 (codes "\\+") (omega arith) refl (λ e. cc) i) ∙ and-false (count == 1)
 
   goal_calls : (controls : Bool) (count : ℕ) → goal_way controls name count ≡ Calling
   goal_calls controls count =
       if_false (controls && is_control name count) _ _ ((λ i. controls && control_none count i) ∙ and-false controls)
+      ∙ if_false (controls && is_negation name count) _ _ ((λ i. controls && negation_none count i) ∙ and-false controls)
       ∙ if_false (count == 2 && bytes_eq name (codes ":")) _ _
       ((λ i. count == 2 && no_word 50 (codes ":") (omega arith) refl (λ e. cc) i) ∙ and-false (count == 2))
 
-  pub way_calls : (role : GoalArg) (count : ℕ) → role ≢ Plain → way role name count ≡ Calling
+  pub way_calls : (arg : GoalArg) (count : ℕ) → arg ≢ Plain → way arg name count ≡ Calling
   way_calls Plain count goal = absurd (goal refl)
   way_calls (Goal e) count goal = goal_calls (e == 0) count
   way_calls Caret count goal =
@@ -110,12 +114,18 @@ module _ (name : List ℕ) (free : IsFree name) where
   way_calls Grammar count goal = goal_calls true count
 
   -- an atom is called too
-  pub atom_calls : (at : ℕ) (owner : List ℕ) (role : GoalArg) → role ≢ Plain → atom_met at owner role name ≡ Some (call at owner name (added role))
-  atom_calls at owner Plain goal = absurd (goal refl)
-  atom_calls at owner (Goal e) goal = refl
-  atom_calls at owner Caret goal = refl
-  atom_calls at owner Grammar goal =
-      if_false (is_among (codes "[]" ∷ codes "{}" ∷ codes "!" ∷ []) name) _ _
+
+  atom_called : (arg : GoalArg) → arg ≢ Plain → calls_atom arg name ≡ true
+  atom_called Plain goal = absurd (goal refl)
+  atom_called (Goal e) goal = refl
+  atom_called Caret goal = refl
+  atom_called Grammar goal =
+      ap not
       (none_in (codes "[]") (codes "{}" ∷ codes "!" ∷ []) (not_word 3 (codes "[]") (omega arith) refl (λ e. cc))
       (none_in (codes "{}") (codes "!" ∷ []) (not_word 4 (codes "{}") (omega arith) refl (λ e. cc))
       (none_in (codes "!") [] (not_word 63 (codes "!") (omega arith) refl (λ e. cc)) refl)))
+
+  pub atom_calls : (at : ℕ) (owner : List ℕ) (role : Role) → role.arg ≢ Plain
+      → atom_met at owner role name ≡ Some (call at owner name (added role.arg) (added role.arg) role.negated)
+  atom_calls at owner role goal =
+      ap (λ (b : Bool). if b then Some (call at owner name (added role.arg) (added role.arg) role.negated) else None) (atom_called role.arg goal)

@@ -9,10 +9,10 @@ use Rattle.list_laws.proofs.Members.{any_there, any_from}
 use Rattle.import_rules.specs.Program.{Seen}
 use Rattle.call_edges.specs.declared.kept_calls.PieceCalls.{PieceCalls}
 use Rattle.call_edges.specs.declared.placed_calls.PlacedCall.{PlacedCall}
-use Rattle.call_edges.specs.Goals.{Met, call, Adds}
+use Rattle.call_edges.specs.Goals.{Met, Adds}
 use Rattle.call_edges.specs.ProgramRows.{rows_of}
 use Rattle.call_edges.specs.Bodies.{Body, bodies_in, IsMetInBody}
-use Rattle.call_edges.specs.CallPlaces.{CallAt, IsCalledIn, IsCallOf}
+use Rattle.call_edges.specs.CallPlaces.{CallAt, IsCalledIn, IsCallOf, met_of}
 use Rattle.call_edges.specs.KeptCalls.{body_calls, calls_in, same_call, has_call, AreCallsBetween, AreCallsIn, AreKept}
 use Rattle.call_edges.specs.PlacedSeen.{call_met, see_call, see_calls}
 use Rattle.call_edges.specs.Successors.{body_mets}
@@ -36,7 +36,7 @@ module _ (seen : Seen) (caller : ℕ) where
             call_as seen body.file caller (λ (x : Met). one.one ≡ x) Met_in c (λ m same. (met m).0 (subst (λ (x : Met). Contains mets x) same one.has))
             (kept_call seen body.file caller one.one c (one.is.is ∙ ap (λ x. Some x) one.is.holds)),
         λ called.
-            let m = call c.offset c.callee.module c.callee.name c.callee.arity in
+            let m = met_of c in
             let is =
             call_kept seen body.file caller m c
             (record { in_file = called.in_file; caller_is = called.caller_is; means_is = called.means_is; met = refl }) in

@@ -27,6 +27,7 @@ pub mod LightLemmas
 pub mod RootLemmas
 pub mod PlainRoots
 pub mod RootReasons
+pub mod PropertyLemmas
 pub mod FaultLemmas
 pub mod OffsetLemmas
 pub mod GoalLemmas

@@ -14,9 +14,8 @@ use Rattle.module_table.specs.Defined.{Predicate}
 use Rattle.module_table.specs.Facts.{Facts}
 use Rattle.prolog_tokens.specs.declared.limits.TheConstants.{MOST_BYTES}
 use Rattle.import_rules.specs.Program.{Seen, places_in, IsKnown}
-use Rattle.module_table.specs.declared.goal_arg.GoalArg.TheVariants.{Goal, Grammar}
 use Rattle.module_table.specs.Metas.{added}
-use Rattle.call_edges.specs.Goals.{Place, place}
+use Rattle.call_edges.specs.Goals.{Place, place, goal_role, grammar_role}
 use Rattle.call_edges.specs.Calls.{body_by, body_of}
 use Rattle.call_edges.specs.Bodies.{Body, body_in, clause_bodies, bodies_at, bodies_in, goals_of_file, goals_in, IsLight}
 use Rattle.call_edges.proofs.AmongLemmas.{flat_has, map_has, among_given}
@@ -26,13 +25,13 @@ use Rattle.call_edges.proofs.BodyLemmas.{places_there, bodies_there, IsThere}
 
 -- a body weighs less than its clause
 light_body : (owner : List ℕ) (clause : Tree) (rule grammar : Option (Tree × Tree)) (body : Place) → sides_of (codes ":-") clause ≡ rule → sides_of (codes "-->") clause ≡ grammar
-    → body_by owner rule grammar ≡ Some body → added body.role + weight body.tree ≤ weight clause
+    → body_by owner rule grammar ≡ Some body → added body.role.arg + weight body.tree ≤ weight clause
 light_body owner clause (Some (left, right)) grammar body first second is =
-    let same : place owner (Goal 0) right ≡ body = same_Some (place owner (Goal 0) right) body is in
-    omega (arith, sides_weight (codes ":-") clause left right first, ap (λ (p : Place). weight p.tree) same, ap (λ (p : Place). added p.role) same)
+    let same : place owner goal_role right ≡ body = same_Some (place owner goal_role right) body is in
+    omega (arith, sides_weight (codes ":-") clause left right first, ap (λ (p : Place). weight p.tree) same, ap (λ (p : Place). added p.role.arg) same)
 light_body owner clause None (Some (left, right)) body first second is =
-    let same : place owner Grammar right ≡ body = same_Some (place owner Grammar right) body is in
-    omega (arith, sides_weight (codes "-->") clause left right second, ap (λ (p : Place). weight p.tree) same, ap (λ (p : Place). added p.role) same)
+    let same : place owner grammar_role right ≡ body = same_Some (place owner grammar_role right) body is in
+    omega (arith, sides_weight (codes "-->") clause left right second, ap (λ (p : Place). weight p.tree) same, ap (λ (p : Place). added p.role.arg) same)
 light_body owner clause None None body first second is = absurd (none-some body is)
 
 given_light : (file : ℕ) (owner : List ℕ) (clause : Tree) (body : Body) (o : Option Place) → body_of owner clause ≡ o → option_map (body_in file) o ≡ Some body
@@ -77,7 +76,7 @@ goals_light seen known =
     let there : slice_get files of_file.one.0 ≡ Some file = enumerated files of_file.one of_file.has in
     let in_files : Contains files file =
     (of_file.one.0, slice_get_within files of_file.one.0 file there, get_or_from_slice_get files of_file.one.0 file file there) in
-    let of_goal = (map_has (λ goal. body_in of_file.one.0 (place file.module_ (Goal 0) goal)) file.goals body).0 of_file.is in
+    let of_goal = (map_has (λ goal. body_in of_file.one.0 (place file.module_ goal_role goal)) file.goals body).0 of_file.is in
     let light = read_has (λ (f : Facts). All (λ tree. weight tree ≤ MOST_BYTES) f.goals) seen.loaded.texts files known.read (λ text f read. read.light_goals) file in_files in
     let small : weight of_goal.one ≤ MOST_BYTES = All-contains (λ tree. weight tree ≤ MOST_BYTES) file.goals of_goal.one light of_goal.has in
     subst IsLight of_goal.is (omega (arith, small)))

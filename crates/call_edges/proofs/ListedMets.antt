@@ -4,8 +4,8 @@ use Rattle.std.specs.Prelude.{Contains}
 use Rattle.std.specs.Option.{option_to_list}
 use Rattle.prolog_terms.specs.Tree.{Tree, Trees, variable, constant, atom, compound, listed, tailed, curly, paren, more, none}
 use Rattle.prolog_terms.specs.Views.{trees_in}
-use Rattle.module_table.specs.declared.goal_arg.GoalArg.{GoalArg}
-use Rattle.call_edges.specs.Goals.{Met, place, Rows, Taken, taken, met_at, role_at, curly_role, IsMet, AddsMet}
+use Rattle.call_edges.specs.declared.role.Role.{Role}
+use Rattle.call_edges.specs.Goals.{Met, place, Rows, Taken, taken, met_at, argument_role, curly_role, IsMet, AddsMet}
 use Rattle.call_edges.specs.Listed.{mets_in, mets_among}
 use Rattle.list_laws.proofs.OneOrder.{nothing_in}
 use Rattle.call_edges.proofs.MetLemmas.{adds_own, adds_part, AddsFirst, first_none, first_more, first_all}
@@ -16,7 +16,7 @@ record AreFrom (all : List Tree) (k : ℕ) (trees : List Tree) : Type 0 where
 
 module _ (T : Rows) where
   mutual
-    pub mets_add : (owner : List ℕ) (role : GoalArg) (tree : Tree) (old : List Met) → AddsMet T (place owner role tree) old (old ++ mets_in T owner role tree)
+    pub mets_add : (owner : List ℕ) (role : Role) (tree : Tree) (old : List Met) → AddsMet T (place owner role tree) old (old ++ mets_in T owner role tree)
     mets_add owner role (variable span) old = adds_own T (place owner role (variable span)) old (old ++ []) (λ q is. is) refl
     mets_add owner role (constant kind minus value span) old =
         let tree = constant kind minus value span in
@@ -29,10 +29,10 @@ module _ (T : Rows) where
         let own = old ++ option_to_list apart.met in
         let first : AddsFirst T apart (trees_in args) 0 old own = first_none T apart (trees_in args) old own refl in
         let all = among_add apart (trees_in args) 0 args old own (record { each = λ i. ap (slice_get (trees_in args)) (omega arith) }) first in
-        let new = own ++ mets_among T apart.module_ apart.standing 0 args in
+        let new = own ++ mets_among T apart 0 args in
         let whole = first_all T owner role name args form span (0 + length (trees_in args)) old new (omega arith) all in
         let Q : List Met → Type 0 = λ xs. AddsMet T (place owner role (compound name args form span)) old xs in
-        subst Q (append_assoc old (option_to_list apart.met) (mets_among T apart.module_ apart.standing 0 args)) whole
+        subst Q (append_assoc old (option_to_list apart.met) (mets_among T apart 0 args)) whole
     mets_add owner role (listed items span) old = adds_own T (place owner role (listed items span)) old (old ++ []) (λ q is. is) refl
     mets_add owner role (tailed items tail span) old = adds_own T (place owner role (tailed items tail span)) old (old ++ []) (λ q is. is) refl
     mets_add owner role (curly inner span) old =
@@ -43,7 +43,7 @@ module _ (T : Rows) where
         (mets_add owner role inner old)
 
     among_add : (apart : Taken) (all : List Tree) (k : ℕ) (trees : Trees) (old mid : List Met) → AreFrom all k (trees_in trees) → AddsFirst T apart all k old mid
-        → AddsFirst T apart all (k + length (trees_in trees)) old (mid ++ mets_among T apart.module_ apart.standing k trees)
+        → AddsFirst T apart all (k + length (trees_in trees)) old (mid ++ mets_among T apart k trees)
     among_add apart all k none old mid are first =
         let P : ℕ → Type 0 = λ n. AddsFirst T apart all n old (mid ++ []) in
         let Q : List Met → Type 0 = λ xs. AddsFirst T apart all k old xs in
@@ -51,18 +51,18 @@ module _ (T : Rows) where
         subst P here (subst Q (sym (append-nil mid)) first)
     among_add apart all k (more tree trees) old mid are first =
         let read : slice_get all k ≡ Some tree = ap (slice_get all) (omega arith) ∙ are.each 0 in
-        let own = mets_in T apart.module_ (role_at apart.standing k) tree in
-        let next = first_more T apart all k tree old mid (mid ++ own) read first (mets_add apart.module_ (role_at apart.standing k) tree mid) in
+        let own = mets_in T apart.module_ (argument_role apart k) tree in
+        let next = first_more T apart all k tree old mid (mid ++ own) read first (mets_add apart.module_ (argument_role apart k) tree mid) in
         let rest : AreFrom all (k + 1) (trees_in trees) = record { each = λ i. ap (slice_get all) (omega arith) ∙ are.each (suc i) } in
         let later = among_add apart all (k + 1) trees old (mid ++ own) rest next in
         let count : (k + 1) + length (trees_in trees) ≡ k + length (tree ∷ trees_in trees) = omega arith in
-        let more_mets = mets_among T apart.module_ apart.standing (k + 1) trees in
+        let more_mets = mets_among T apart (k + 1) trees in
         let P : ℕ → Type 0 = λ n. AddsFirst T apart all n old ((mid ++ own) ++ more_mets) in
         let Q : List Met → Type 0 = λ xs. AddsFirst T apart all (k + length (tree ∷ trees_in trees)) old xs in
         subst Q (append_assoc mid own more_mets) (subst P count later)
 
   -- the list has just what is met
-  pub mets_are : (owner : List ℕ) (role : GoalArg) (tree : Tree) (m : Met) → Contains (mets_in T owner role tree) m ↔ IsMet T (place owner role tree) m
+  pub mets_are : (owner : List ℕ) (role : Role) (tree : Tree) (m : Met) → Contains (mets_in T owner role tree) m ↔ IsMet T (place owner role tree) m
   mets_are owner role tree m =
       let adds = mets_add owner role tree [] in (
         λ has. elim ((adds.each m).0 has) [ inl before ↦ absurd (nothing_in m before) | inr met ↦ met ],

@@ -1,5 +1,5 @@
 -- What is met within a place: at the place itself, or within one of its parts.
-use Rattle.std.proofs.Common.{◌≡◌, ◌⊎◌, inl, inr, ℕ, ◌+◌, ◌<◌, ◌≤◌, List, [], ◌∷◌, ◌++◌, Some, None, length, slice_get, ap, sym, ◌∙◌, subst, refl, arith}
+use Rattle.std.proofs.Common.{◌≡◌, ◌⊎◌, inl, inr, ℕ, ◌+◌, ◌<◌, ◌≤◌, Bool, List, [], ◌∷◌, ◌++◌, Some, None, length, slice_get, ap, sym, ◌∙◌, subst, refl, arith}
 use Rattle.std.specs.Option.{option_to_list}
 use Rattle.std.proofs.lemmas.Bool.{cases_eq}
 use Rattle.std.proofs.lemmas.Option.{none-some, same_Some, slice_get_within}
@@ -9,18 +9,19 @@ use Rattle.prolog_terms.specs.Tree.{Tree, Trees, variable, constant, atom, compo
 use Rattle.prolog_terms.specs.Views.{trees_in, only_of, pair_of}
 use Rattle.module_table.specs.declared.goal_arg.GoalArg.{GoalArg}
 use Rattle.module_table.specs.declared.goal_arg.GoalArg.TheVariants.{Plain}
-use Rattle.call_edges.specs.Goals.{Met, Place, place, Rows, no_goals, Taken, taken, met_at, role_at, IsArgument, IsPart, Leads, IsMet, Adds, AddsMet}
+use Rattle.call_edges.specs.declared.role.Role.{Role}
+use Rattle.call_edges.specs.Goals.{Met, Place, place, Rows, no_goals, Taken, taken, met_at, role_at, argument_role, IsArgument, IsPart, Leads, IsMet, Adds, AddsMet}
 use Rattle.call_edges.proofs.AddsLemmas.{adds_as, adds_option, adds_then}
 use Rattle.module_table.proofs.Shapes.{only_seen, pair_seen}
 
-place_same : (q : Place) (owner : List ℕ) (role : GoalArg) (tree : Tree) → q.module_ ≡ owner → q.role ≡ role → q.tree ≡ tree → q ≡ place owner role tree
+place_same : (q : Place) (owner : List ℕ) (role : Role) (tree : Tree) → q.module_ ≡ owner → q.role ≡ role → q.tree ≡ tree → q ≡ place owner role tree
 place_same q owner role tree in_module stands is = λ i. place (in_module i) (stands i) (is i)
 
 -- where an argument of a compound stands
 abbrev pub argument_at : Taken → ℕ → Tree → Place
-argument_at apart k tree = place apart.module_ (role_at apart.standing k) tree
+argument_at apart k tree = place apart.module_ (argument_role apart k) tree
 
-abbrev pub compound_at : List ℕ → GoalArg → List ℕ → Trees → Form → Span → Place
+abbrev pub compound_at : List ℕ → Role → List ℕ → Trees → Form → Span → Place
 compound_at owner role name args form span = place owner role (compound name args form span)
 
 module _ (T : Rows) where
@@ -49,36 +50,43 @@ module _ (T : Rows) where
 
   -- nothing is met within a term that is no goal
 
-  plain_met : (owner : List ℕ) (tree : Tree) (m : Met) → met_at T owner Plain tree ≡ Some m → ⊥
-  plain_met owner (variable span) m is = none-some m is
-  plain_met owner (constant kind minus value span) m is = none-some m is
-  plain_met owner (atom name span) m is = none-some m is
-  plain_met owner (compound name args form span) m is = none-some m is
-  plain_met owner (listed items span) m is = none-some m is
-  plain_met owner (tailed items tail span) m is = none-some m is
-  plain_met owner (curly inner span) m is = none-some m is
-  plain_met owner (paren inner span) m is = none-some m is
+  module _ (negated : Bool) where
+    abbrev plain_role : Role
+    plain_role = record { arg = Plain; negated = negated }
 
-  plain_part : (owner : List ℕ) (tree : Tree) (q : Place) → IsPart T owner Plain tree q → q.role ≡ Plain
-  plain_part owner (variable span) q is = absurd is
-  plain_part owner (constant kind minus value span) q is = absurd is
-  plain_part owner (atom name span) q is = absurd is
-  plain_part owner (compound name args form span) q is = is.stands
-  plain_part owner (listed items span) q is = absurd is
-  plain_part owner (tailed items tail span) q is = absurd is
-  plain_part owner (curly inner span) q is = ap (λ (p : Place). p.role) is
-  plain_part owner (paren inner span) q is = ap (λ (p : Place). p.role) is
+    plain_met : (owner : List ℕ) (tree : Tree) (m : Met) → met_at T owner plain_role tree ≡ Some m → ⊥
+    plain_met owner (variable span) m is = none-some m is
+    plain_met owner (constant kind minus value span) m is = none-some m is
+    plain_met owner (atom name span) m is = none-some m is
+    plain_met owner (compound name args form span) m is = none-some m is
+    plain_met owner (listed items span) m is = none-some m is
+    plain_met owner (tailed items tail span) m is = none-some m is
+    plain_met owner (curly inner span) m is = none-some m is
+    plain_met owner (paren inner span) m is = none-some m is
 
-  pub plain_silent : (p : Place) (m : Met) → p.role ≡ Plain → IsMet T p m → ⊥
+    plain_part : (owner : List ℕ) (tree : Tree) (q : Place) → IsPart T owner plain_role tree q → q.role.arg ≡ Plain
+    plain_part owner (variable span) q is = absurd is
+    plain_part owner (constant kind minus value span) q is = absurd is
+    plain_part owner (atom name span) q is = absurd is
+    plain_part owner (compound name args form span) q is = ap (λ (r : Role). r.arg) is.stands
+    plain_part owner (listed items span) q is = absurd is
+    plain_part owner (tailed items tail span) q is = absurd is
+    plain_part owner (curly inner span) q is = ap (λ (p : Place). p.role.arg) is
+    plain_part owner (paren inner span) q is = ap (λ (p : Place). p.role.arg) is
+
+  pub plain_silent : (p : Place) (m : Met) → p.role.arg ≡ Plain → IsMet T p m → ⊥
   plain_silent p m plain is = by_path is.stands.path p plain is.stands.leads
     where
-      by_path : (path : List Place) (q : Place) → q.role ≡ Plain → Leads T q path is.at → ⊥
+      by_path : (path : List Place) (q : Place) → q.role.arg ≡ Plain → Leads T q path is.at → ⊥
       by_path [] q here same =
-          plain_met q.module_ q.tree m
-          (subst (λ (role : GoalArg). met_at T q.module_ role q.tree ≡ Some m) here
+          plain_met q.role.negated q.module_ q.tree m
+          (subst (λ (arg : GoalArg). met_at T q.module_ (record { arg = arg; negated = q.role.negated }) q.tree ≡ Some m) here
           (subst (λ (x : Place). met_at T x.module_ x.role x.tree ≡ Some m) (sym same) is.met))
       by_path (n ∷ path) q here leads =
-          by_path path n (plain_part q.module_ q.tree n (subst (λ (role : GoalArg). IsPart T q.module_ role q.tree n) here leads.0)) leads.1
+          by_path path n
+          (plain_part q.role.negated q.module_ q.tree n
+          (subst (λ (arg : GoalArg). IsPart T q.module_ (record { arg = arg; negated = q.role.negated }) q.tree n) here leads.0))
+          leads.1
 
   -- a place without parts
   pub adds_own : (p : Place) (old new : List Met) → ((q : Place) → IsPart T p.module_ p.role p.tree q → ⊥)
@@ -146,7 +154,7 @@ module _ (T : Rows) where
 
       same : (part : Place) (is : IsArgument apart args part) → is.i ≡ k → part ≡ argument_at apart k tree
       same part is equal =
-          place_same part apart.module_ (role_at apart.standing k) tree is.in_module (is.stands ∙ ap (role_at apart.standing) equal)
+          place_same part apart.module_ (argument_role apart k) tree is.in_module (is.stands ∙ ap (argument_role apart) equal)
           (same_Some part.tree tree (sym is.argument ∙ (ap (slice_get args) equal ∙ at)))
 
       from : (m : Met) → IsMetFirst apart args (k + 1) m → IsMetFirst apart args k m ⊎ IsMet T (argument_at apart k tree) m
@@ -160,7 +168,7 @@ module _ (T : Rows) where
                 ]
           ]
 
-  pub first_all : (owner : List ℕ) (role : GoalArg) (name : List ℕ) (args : Trees) (form : Form) (span : Span) (k : ℕ) (old new : List Met)
+  pub first_all : (owner : List ℕ) (role : Role) (name : List ℕ) (args : Trees) (form : Form) (span : Span) (k : ℕ) (old new : List Met)
       → length (trees_in args) ≤ k → AddsFirst (taken T span.from owner role name (trees_in args)) (trees_in args) k old new
       → AddsMet T (compound_at owner role name args form span) old new
   first_all owner role name args form span k old new all first =
@@ -193,7 +201,7 @@ module _ (T : Rows) where
       (λ m either.
       elim either [
         | inl own ↦ inl own
-        | inr below ↦ absurd (plain_silent below.part m (below.is.stands ∙ ap (λ standing. role_at standing below.is.i) none) below.met)
+        | inr below ↦ absurd (plain_silent below.part m (ap (λ (r : Role). r.arg) below.is.stands ∙ ap (λ standing. role_at standing below.is.i) none) below.met)
       ])
       first
 

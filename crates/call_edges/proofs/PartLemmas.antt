@@ -8,8 +8,8 @@ use Rattle.prolog_terms.specs.Views.{trees_in}
 use Rattle.prolog_terms.specs.Weight.{weight, weights}
 use Rattle.module_table.specs.declared.goal_arg.GoalArg.{GoalArg}
 use Rattle.module_table.specs.declared.goal_arg.GoalArg.TheVariants.{Plain, Goal, Caret, Grammar}
-use Rattle.call_edges.specs.declared.role.Way.TheVariants.{Silent, Behind, Control, Qualified, Calling}
-use Rattle.call_edges.specs.Goals.{is_control, goal_way, way}
+use Rattle.call_edges.specs.declared.role.Way.TheVariants.{Silent, Behind, Control, Negation, Qualified, Calling}
+use Rattle.call_edges.specs.Goals.{is_control, is_negation, goal_way, way}
 
 pub length_count : (args : Trees) → length (trees_in args) ≡ count args
 length_count none = refl
@@ -27,22 +27,24 @@ part_count (more first args) (suc i) tree is = omega (arith, part_count args i t
 
 -- a qualified goal has two arguments
 
-chosen : (test : Bool) (name : List ℕ) (n : ℕ) → (if test then Control else if n == 2 && bytes_eq name (codes ":") then Qualified else Calling) ≡ Qualified → n ≡ 2
-chosen true name n is = let both : Control ≡ Qualified = is in absurd (cc)
-chosen false name n is = by_test (n == 2 && bytes_eq name (codes ":")) refl is
+chosen : (control negation : Bool) (name : List ℕ) (n : ℕ)
+    → (if control then Control else if negation then Negation else if n == 2 && bytes_eq name (codes ":") then Qualified else Calling) ≡ Qualified → n ≡ 2
+chosen true negation name n is = let both : Control ≡ Qualified = is in absurd (cc)
+chosen false true name n is = let both : Negation ≡ Qualified = is in absurd (cc)
+chosen false false name n is = by_test (n == 2 && bytes_eq name (codes ":")) refl is
   where
     by_test : (test : Bool) → (n == 2 && bytes_eq name (codes ":")) ≡ test → (if test then Qualified else Calling) ≡ Qualified → n ≡ 2
     by_test true here same = eqb-true n 2 (and_parts (n == 2) (bytes_eq name (codes ":")) here).0
     by_test false here same = let both : Calling ≡ Qualified = same in absurd (cc)
 
 goal_two : (controls : Bool) (name : List ℕ) (n : ℕ) → goal_way controls name n ≡ Qualified → n ≡ 2
-goal_two controls name n is = chosen (controls && is_control name n) name n is
+goal_two controls name n is = chosen (controls && is_control name n) (controls && is_negation name n) name n is
 
 caret_two : (test : Bool) (name : List ℕ) (n : ℕ) → (if test then Behind else goal_way true name n) ≡ Qualified → n ≡ 2
 caret_two true name n is = let both : Behind ≡ Qualified = is in absurd (cc)
 caret_two false name n is = goal_two true name n is
 
-pub qualified_two : (role : GoalArg) (name : List ℕ) (n : ℕ) → way role name n ≡ Qualified → n ≡ 2
+pub qualified_two : (arg : GoalArg) (name : List ℕ) (n : ℕ) → way arg name n ≡ Qualified → n ≡ 2
 qualified_two Plain name n is = let both : Silent ≡ Qualified = is in absurd (cc)
 qualified_two (Goal e) name n is = goal_two (e == 0) name n is
 qualified_two Caret name n is = caret_two (n == 2 && bytes_eq name (codes "^")) name n is

@@ -7,23 +7,25 @@ use Rattle.std.specs.List.Sorted.{IsSorted, IsPermutation}
 use Rattle.std.specs.Option.{option_eq, option_cmp, option_to_list}
 use Rattle.std.specs.declared.cmp.Ordering.{Ordering}
 use Rattle.std.specs.declared.cmp.Ordering.TheVariants.{Less, Equal, Greater}
-use Rattle.std.specs.Ordering.{is_eq, nat_cmp, ordering_then}
-use Rattle.std.specs.Cmp.{IsEquivalence, IsTotalOrder, both_tied, unsigned_ties}
-use Rattle.std.specs.Cmp.Lexicographic.{options_equiv, options_total}
+use Rattle.std.specs.Bool.{beq}
+use Rattle.std.specs.Ordering.{bool_cmp, is_eq, nat_cmp, ordering_then}
+use Rattle.std.specs.Cmp.{IsEquivalence, IsTotalOrder, bool_cmp_total, bool_eq_equiv, both_tied, unsigned_ties}
+use Rattle.std.specs.Cmp.Lexicographic.{options_equiv, options_total, texts_ties}
+use Rattle.std.specs.Str.{bytes_eq}
 use Rattle.std.proofs.lemmas.Bool.{and_parts}
 use Rattle.std.proofs.lemmas.Bool.Decides.{Decides-eqb}
-use Rattle.std.proofs.lemmas.Cmp.{then_total, on_total, nat_cmp_total, and_equiv, on_equiv, nat_list_eq_equiv, nat_eq_equiv, tied_itself}
+use Rattle.std.proofs.lemmas.Cmp.{then_total, on_total, nat_cmp_total, nat_list_cmp_total, and_equiv, on_equiv, nat_list_eq_equiv, nat_eq_equiv, tied_itself}
 use Rattle.std.proofs.lemmas.List.Filters.{dedup_is}
 use Rattle.std.proofs.lemmas.List.Kept.{Any-dedup, Contains-from_dedup, IsStrictlySortedBy-dedup}
 use Rattle.std.proofs.lemmas.List.Sorted.{Contains-permutation, IsPermutation-sym}
 use Rattle.std.proofs.lemmas.Map.Keys.{Less-from_sorted}
 use Rattle.std.proofs.lemmas.Option.{none-some, same_Some, slice_get-get_or}
+use Rattle.std.proofs.lemmas.Slice.Eq.{bytes_eq-Decides}
 use Rattle.list_laws.proofs.Members.{stands_in}
 use Rattle.import_rules.specs.declared.names.PredName.{PredName}
-use Rattle.import_rules.specs.Names.{is_same}
+use Rattle.import_rules.specs.Names.{pred_name}
 use Rattle.import_rules.specs.Program.{Seen, found}
 use Rattle.import_rules.proofs.Lists.{all_pairs_map}
-use Rattle.import_rules.proofs.NameOrder.{pred_cmp_total, same_ties, same_parts}
 use Rattle.call_edges.specs.declared.role.Met.{Met as MetKept}
 use Rattle.call_edges.specs.declared.placed_calls.PlacedCall.{PlacedCall}
 use Rattle.call_edges.specs.Goals.{Met, call, fault, Adds, AddsMet}
@@ -31,8 +33,8 @@ use Rattle.call_edges.specs.Calls.{IsAmong, target}
 use Rattle.call_edges.specs.Bodies.{Body, IsMetInBody}
 use Rattle.call_edges.specs.ProgramRows.{rows_of}
 use Rattle.call_edges.specs.Seen.{see_met, see_mets}
-use Rattle.call_edges.specs.CallPlaces.{CallAt, call_cmp, IsCallBy, IsCalledIn, IsCallOf, AreCallsOf}
-use Rattle.call_edges.specs.KeptCalls.{same_name, same_call}
+use Rattle.call_edges.specs.CallPlaces.{CallAt, callee_cmp, call_cmp, met_of, IsCallBy, IsCalledIn, IsCallOf, AreCallsOf}
+use Rattle.call_edges.specs.KeptCalls.{same_callee, same_name, same_call}
 use Rattle.call_edges.specs.PlacedSeen.{see_call, see_calls, call_to, call_met}
 use Rattle.call_edges.proofs.AddsLemmas.{adds_as, adds_option}
 use Rattle.call_edges.proofs.AmongLemmas.{map_has}
@@ -53,28 +55,28 @@ module _ (seen : Seen) (file caller : ℕ) where
       (added ∙ ap (λ o. old ++ option_to_list o) same)
 
   pub kept_call : (m : Met) (c : CallAt) → call_met seen file caller m ≡ Some c → IsCallBy seen file caller (λ (x : Met). m ≡ x) c
-  kept_call (call at owner name arity) c is =
+  kept_call (call at owner name arity more negated) c is =
       let same = same_Some _ c is in
       let Means : CallAt → Type 0 = λ x. x.means ≡ found seen x.callee.module x.callee.name x.callee.arity in
       record {
         in_file = ap (λ (x : CallAt). x.file) (sym same);
         caller_is = ap (λ (x : CallAt). x.caller) (sym same);
         means_is = subst Means same refl;
-        met = ap (λ (x : CallAt). call x.offset x.callee.module x.callee.name x.callee.arity) same;
+        met = ap met_of same;
       }
   kept_call (fault at) c is = absurd (none-some c is)
 
   pub call_kept : (m : Met) (c : CallAt) → IsCallBy seen file caller (λ (x : Met). m ≡ x) c → call_met seen file caller m ≡ Some c
   call_kept m c is =
       ap (call_met seen file caller) is.met
-      ∙ (λ i. Some (record { file = sym is.in_file i; offset = c.offset; caller = sym is.caller_is i; callee = c.callee; means = sym is.means_is i }))
+      ∙ (λ i. Some (record c { file = sym is.in_file i; caller = sym is.caller_is i; means = sym is.means_is i }))
 
   pub call_as : (P Q : Met → Type 0) (c : CallAt) → ((m : Met) → P m → Q m) → IsCallBy seen file caller P c → IsCallBy seen file caller Q c
   call_as P Q c to is = record {
     in_file = is.in_file;
     caller_is = is.caller_is;
     means_is = is.means_is;
-    met = to (call c.offset c.callee.module c.callee.name c.callee.arity) is.met;
+    met = to (met_of c) is.met;
   }
 
   pub calls_kept : (met : List MetKept) (old new : List CallAt) → Adds (IsAmong IsKeptCall met) old new → Adds (IsCallBy seen file caller (Contains (see_mets met))) old new
@@ -85,7 +87,7 @@ module _ (seen : Seen) (file caller : ℕ) where
       (λ m same. (map_has see_met met m).1 (record { one = among.one; has = among.has; is = same }))
       (kept_call (see_met among.one) c among.is))
       (λ c is.
-      let kept = (map_has see_met met (call c.offset c.callee.module c.callee.name c.callee.arity)).0 is.met in
+      let kept = (map_has see_met met (met_of c)).0 is.met in
       record {
         one = kept.one;
         has = kept.has;
@@ -105,16 +107,36 @@ body_called seen caller body met none old new empty walked adds =
 
 -- which calls are the same
 
+callee_cmp_total : IsTotalOrder callee_cmp
+callee_cmp_total =
+    then_total (on_total (λ (c : CallAt). c.callee.module) nat_list_cmp_total)
+    (then_total (on_total (λ (c : CallAt). c.callee.name) nat_list_cmp_total)
+    (then_total (on_total (λ (c : CallAt). c.callee.arity) nat_cmp_total)
+    (then_total (on_total (λ (c : CallAt). c.added) nat_cmp_total) (on_total (λ (c : CallAt). c.negated) bool_cmp_total))))
+
 pub call_cmp_total : IsTotalOrder call_cmp
 call_cmp_total =
     then_total (on_total (λ (c : CallAt). c.file) nat_cmp_total)
     (then_total (on_total (λ (c : CallAt). c.offset) nat_cmp_total)
-    (then_total (on_total (λ (c : CallAt). c.caller) nat_cmp_total) (on_total (λ (c : CallAt). c.callee) pred_cmp_total)))
+    (then_total (on_total (λ (c : CallAt). c.caller) nat_cmp_total) callee_cmp_total))
+
+bool_ties : (a b : Bool) → beq a b ≡ is_eq (bool_cmp a b)
+bool_ties true true = refl
+bool_ties true false = refl
+bool_ties false true = refl
+bool_ties false false = refl
+
+same_callee_ties : (a b : CallAt) → same_callee a b ≡ is_eq (callee_cmp a b)
+same_callee_ties a b =
+    both_tied _ _ _ _ (texts_ties a.callee.module b.callee.module)
+    (both_tied _ _ _ _ (texts_ties a.callee.name b.callee.name)
+    (both_tied _ _ _ _ (unsigned_ties a.callee.arity b.callee.arity)
+    (both_tied _ _ _ _ (unsigned_ties a.added b.added) (bool_ties a.negated b.negated))))
 
 same_name_ties : (a b : CallAt) → same_name a b ≡ is_eq (call_cmp a b)
 same_name_ties a b =
     both_tied _ _ _ _ (unsigned_ties a.file b.file)
-    (both_tied _ _ _ _ (unsigned_ties a.offset b.offset) (both_tied _ _ _ _ (unsigned_ties a.caller b.caller) (same_ties a.callee b.callee)))
+    (both_tied _ _ _ _ (unsigned_ties a.offset b.offset) (both_tied _ _ _ _ (unsigned_ties a.caller b.caller) (same_callee_ties a b)))
 
 -- by what their names mean last
 abbrev pub whole_cmp : CallAt → CallAt → Ordering
@@ -132,16 +154,18 @@ option_ties (Some x) (Some y) = unsigned_ties x y
 same_call_ties : (a b : CallAt) → same_call a b ≡ is_eq (whole_cmp a b)
 same_call_ties a b = both_tied _ _ _ _ (same_name_ties a b) (option_ties a.means b.means)
 
-name_equiv : IsEquivalence is_same
-name_equiv =
-    and_equiv (on_equiv (λ (p : PredName). p.module) nat_list_eq_equiv)
-    (and_equiv (on_equiv (λ (p : PredName). p.name) nat_list_eq_equiv) (on_equiv (λ (p : PredName). p.arity) nat_eq_equiv))
+callee_equiv : IsEquivalence same_callee
+callee_equiv =
+    and_equiv (on_equiv (λ (c : CallAt). c.callee.module) nat_list_eq_equiv)
+    (and_equiv (on_equiv (λ (c : CallAt). c.callee.name) nat_list_eq_equiv)
+    (and_equiv (on_equiv (λ (c : CallAt). c.callee.arity) nat_eq_equiv)
+    (and_equiv (on_equiv (λ (c : CallAt). c.added) nat_eq_equiv) (on_equiv (λ (c : CallAt). c.negated) bool_eq_equiv))))
 
 same_name_equiv : IsEquivalence same_name
 same_name_equiv =
     and_equiv (on_equiv (λ (c : CallAt). c.file) nat_eq_equiv)
     (and_equiv (on_equiv (λ (c : CallAt). c.offset) nat_eq_equiv)
-    (and_equiv (on_equiv (λ (c : CallAt). c.caller) nat_eq_equiv) (on_equiv (λ (c : CallAt). c.callee) name_equiv)))
+    (and_equiv (on_equiv (λ (c : CallAt). c.caller) nat_eq_equiv) callee_equiv))
 
 call_equiv : IsEquivalence same_call
 call_equiv = and_equiv same_name_equiv (on_equiv (λ (c : CallAt). c.means) (options_equiv nat_eq_equiv))
@@ -155,27 +179,64 @@ option_parts None (Some y) e = let both : false ≡ true = e in absurd (cc)
 option_parts (Some x) None e = let both : false ≡ true = e in absurd (cc)
 option_parts (Some x) (Some y) e = ap (λ n. Some n) ((Decides-eqb x y).0 e)
 
+bool_parts : (a b : Bool) → beq a b ≡ true → a ≡ b
+bool_parts true true e = refl
+bool_parts true false e = let both : false ≡ true = e in absurd (cc)
+bool_parts false true e = let both : false ≡ true = e in absurd (cc)
+bool_parts false false e = refl
+
+-- the same name, with as many arguments added, and both negated or neither
+record IsSameCallee (a b : CallAt) : Type 0 where
+  callee : a.callee ≡ b.callee
+  added : a.added ≡ b.added
+  negated : a.negated ≡ b.negated
+
+callee_parts : (a b : CallAt) → same_callee a b ≡ true → IsSameCallee a b
+callee_parts a b e =
+    let last = nat_eq a.added b.added && beq a.negated b.negated in
+    let third = nat_eq a.callee.arity b.callee.arity && last in
+    let first = and_parts (bytes_eq a.callee.module b.callee.module) (bytes_eq a.callee.name b.callee.name && third) e in
+    let second = and_parts (bytes_eq a.callee.name b.callee.name) third first.1 in
+    let arity = and_parts (nat_eq a.callee.arity b.callee.arity) last second.1 in
+    let both = and_parts (nat_eq a.added b.added) (beq a.negated b.negated) arity.1 in
+    let modules : a.callee.module ≡ b.callee.module = (bytes_eq-Decides a.callee.module b.callee.module).0 first.0 in
+    let names : a.callee.name ≡ b.callee.name = (bytes_eq-Decides a.callee.name b.callee.name).0 second.0 in
+    let arities : a.callee.arity ≡ b.callee.arity = (Decides-eqb a.callee.arity b.callee.arity).0 arity.0 in
+    record {
+      callee = λ i. pred_name (modules i) (names i) (arities i);
+      added = (Decides-eqb a.added b.added).0 both.0;
+      negated = bool_parts a.negated b.negated both.1;
+    }
+
 pub same_call_parts : (a b : CallAt) → same_call a b ≡ true → a ≡ b
 same_call_parts a b e =
     let outer = and_parts (same_name a b) (option_eq nat_eq a.means b.means) e in
-    let first = and_parts (nat_eq a.file b.file) (nat_eq a.offset b.offset && (nat_eq a.caller b.caller && is_same a.callee b.callee)) outer.0 in
-    let second = and_parts (nat_eq a.offset b.offset) (nat_eq a.caller b.caller && is_same a.callee b.callee) first.1 in
-    let third = and_parts (nat_eq a.caller b.caller) (is_same a.callee b.callee) second.1 in
+    let first = and_parts (nat_eq a.file b.file) (nat_eq a.offset b.offset && (nat_eq a.caller b.caller && same_callee a b)) outer.0 in
+    let second = and_parts (nat_eq a.offset b.offset) (nat_eq a.caller b.caller && same_callee a b) first.1 in
+    let third = and_parts (nat_eq a.caller b.caller) (same_callee a b) second.1 in
     let files : a.file ≡ b.file = (Decides-eqb a.file b.file).0 first.0 in
     let offsets : a.offset ≡ b.offset = (Decides-eqb a.offset b.offset).0 second.0 in
     let callers : a.caller ≡ b.caller = (Decides-eqb a.caller b.caller).0 third.0 in
-    let callees : a.callee ≡ b.callee = same_parts a.callee b.callee third.1 in
+    let own = callee_parts a b third.1 in
     let means : a.means ≡ b.means = option_parts a.means b.means outer.1 in
-    λ i. record { file = files i; offset = offsets i; caller = callers i; callee = callees i; means = means i }
+    λ i. record {
+      file = files i;
+      offset = offsets i;
+      caller = callers i;
+      callee = own.callee i;
+      added = own.added i;
+      negated = own.negated i;
+      means = means i;
+    }
 
 -- the callees of two names that are the same are too
 same_means : (seen : Seen) (a b : CallAt) → a.means ≡ found seen a.callee.module a.callee.name a.callee.arity
     → b.means ≡ found seen b.callee.module b.callee.name b.callee.arity → same_name a b ≡ true → a.means ≡ b.means
 same_means seen a b first second e =
-    let outer = and_parts (nat_eq a.file b.file) (nat_eq a.offset b.offset && (nat_eq a.caller b.caller && is_same a.callee b.callee)) e in
-    let inner = and_parts (nat_eq a.offset b.offset) (nat_eq a.caller b.caller && is_same a.callee b.callee) outer.1 in
-    let last = and_parts (nat_eq a.caller b.caller) (is_same a.callee b.callee) inner.1 in
-    let callees : a.callee ≡ b.callee = same_parts a.callee b.callee last.1 in
+    let outer = and_parts (nat_eq a.file b.file) (nat_eq a.offset b.offset && (nat_eq a.caller b.caller && same_callee a b)) e in
+    let inner = and_parts (nat_eq a.offset b.offset) (nat_eq a.caller b.caller && same_callee a b) outer.1 in
+    let last = and_parts (nat_eq a.caller b.caller) (same_callee a b) inner.1 in
+    let callees : a.callee ≡ b.callee = (callee_parts a b last.1).callee in
     first ∙ ap (λ (p : PredName). found seen p.module p.name p.arity) callees ∙ sym second
 
 -- so the order of calls is that of their places and names

@@ -16,9 +16,8 @@ use Rattle.module_table.specs.Defined.{Predicate}
 use Rattle.module_table.specs.Facts.{Facts}
 use Rattle.file_library.specs.Asked.{AreInOrder}
 use Rattle.import_rules.specs.Program.{Seen, found}
-use Rattle.module_table.specs.declared.goal_arg.GoalArg.TheVariants.{Goal}
 use Rattle.import_rules.proofs.NameOrder.{same_text}
-use Rattle.call_edges.specs.Goals.{Met, place, Rows, Adds}
+use Rattle.call_edges.specs.Goals.{Met, place, goal_role, Rows, Adds}
 use Rattle.call_edges.specs.ProgramRows.{rows_of}
 use Rattle.call_edges.specs.Calls.{IsAmong, IsMetInGoals, GoesTo}
 use Rattle.call_edges.specs.Bodies.{Body, body_in, goals_of_file, goals_in, IsMetInBody}
@@ -83,7 +82,7 @@ searched xs wanted (Err place) up bound is = (
 -- goals of directives, by their files
 
 file_goals : (T : Rows) (at : ℕ × Facts) (m : Met) → IsAmong (IsMetInBody T) (goals_of_file at) m ↔ (IsMetInGoals T) at.1 m
-file_goals T at m = among_map (IsMetInBody T) (λ goal. body_in at.0 (place at.1.module_ (Goal 0) goal)) at.1.goals m
+file_goals T at m = among_map (IsMetInBody T) (λ goal. body_in at.0 (place at.1.module_ goal_role goal)) at.1.goals m
 
 pub goals_met : (T : Rows) (files : List Facts) (m : Met) → IsAmong (IsMetInBody T) (goals_in files) m ↔ IsAmong (λ file. (IsMetInGoals T) file) files m
 goals_met T files m =

@@ -1,6 +1,5 @@
 -- The goals of a body are sound: each that is kept as a call is an atom, or has a free name.
-use Rattle.std.proofs.Common.{◌≡◌, inl, inr, ℕ, Bool, true, false, ◌&&◌, List, [], ◌∷◌, ◌++◌, All, if◌then◌else◌, codes, refl}
-use Rattle.std.specs.Str.{bytes_eq}
+use Rattle.std.proofs.Common.{◌≡◌, inl, inr, ℕ, Bool, true, false, ◌&&◌, List, [], ◌∷◌, ◌++◌, All, if◌then◌else◌, refl}
 use Rattle.std.proofs.lemmas.List.Elements.{All-nil, All-cons, All-append}
 use Rattle.prolog_terms.specs.Tree.{Tree, Trees, variable, constant, atom, compound, listed, tailed, curly, paren, none, more, count}
 use Rattle.kept_clauses.specs.Plain.{is_one_of, control_names, fits, is_plain_name, all_silent, PlainGoal, called, whole, compound_goal, atom_goal, body_goals}
@@ -31,14 +30,9 @@ goals_sound (constant kind minus value span) = one_sound (whole (constant kind m
 goals_sound (atom name span) = one_sound (atom_goal span.from name (atom name span)) (atom_sound span.from name (atom name span))
 goals_sound (compound name none form span) =
     let tree = compound name none form span in one_sound (compound_goal span.from name none tree) (compound_sound span.from name none tree)
-goals_sound (compound name (more inner none) form span) = by_test (bytes_eq name (codes "\\+")) (goals_sound inner)
-  where
-    by_test : (test : Bool) → All IsSoundGoal (body_goals inner)
-        → All IsSoundGoal (if test then body_goals inner else compound_goal span.from name (more inner none) (compound name (more inner none) form span) ∷ [])
-    by_test true sound = sound
-    by_test false sound =
-        let tree = compound name (more inner none) form span in
-        one_sound (compound_goal span.from name (more inner none) tree) (compound_sound span.from name (more inner none) tree)
+goals_sound (compound name (more inner none) form span) =
+    let tree = compound name (more inner none) form span in
+    one_sound (compound_goal span.from name (more inner none) tree) (compound_sound span.from name (more inner none) tree)
 goals_sound (compound name (more left (more right none)) form span) = by_test (is_one_of control_names name) (goals_sound left) (goals_sound right)
   where
     by_test : (test : Bool) → All IsSoundGoal (body_goals left) → All IsSoundGoal (body_goals right)

@@ -26,7 +26,7 @@ use Rattle.call_edges.proofs.BodyLemmas.{node_met}
 -- what is called is below the count
 
 pub target_below : (seen : Seen) (m : Met) (q : ℕ) → target seen m ≡ Some q → q < length seen.predicates
-target_below seen (call at owner name arity) q is = below seen owner name arity q is
+target_below seen (call at owner name arity more negated) q is = below seen owner name arity q is
 target_below seen (fault at) q is = absurd (none-some q is)
 
 pub goes_below : (seen : Seen) (P : Met → Type 0) (q : ℕ) → GoesTo seen P q → q < length seen.predicates

@@ -37,27 +37,31 @@ module _ (seen : Seen) where
   -- what it says that a call has no predicate: it has the name, which means none
   record IsCallOf (m : Met) (wanted : PredName) : Type 0 where
     at : ℕ
-    same : m ≡ call at wanted.module wanted.name wanted.arity
+    added : ℕ
+    negated : Bool
+    same : m ≡ call at wanted.module wanted.name wanted.arity added negated
     none : found seen wanted.module wanted.name wanted.arity ≡ None
 
-  call_found : (at : ℕ) (owner name : List ℕ) (arity : ℕ) (wanted : PredName) (o : Option ℕ) → found seen owner name arity ≡ o
-      → unless_found (pred_name owner name arity) o ≡ Some wanted → IsCallOf (call at owner name arity) wanted
-  call_found at owner name arity wanted (Some n) here is = absurd (none-some wanted is)
-  call_found at owner name arity wanted None here is =
+  call_found : (at : ℕ) (owner name : List ℕ) (arity more : ℕ) (negated : Bool) (wanted : PredName) (o : Option ℕ) → found seen owner name arity ≡ o
+      → unless_found (pred_name owner name arity) o ≡ Some wanted → IsCallOf (call at owner name arity more negated) wanted
+  call_found at owner name arity more negated wanted (Some n) here is = absurd (none-some wanted is)
+  call_found at owner name arity more negated wanted None here is =
       let same : pred_name owner name arity ≡ wanted = same_Some (pred_name owner name arity) wanted is in
       record {
         at = at;
-        same = ap (λ (p : PredName). call at p.module p.name p.arity) same;
+        added = more;
+        negated = negated;
+        same = ap (λ (p : PredName). call at p.module p.name p.arity more negated) same;
         none = subst (λ (p : PredName). found seen p.module p.name p.arity ≡ None) same here;
       }
 
   kept_name : (m : Met) (wanted : PredName) → unresolved seen m ≡ Some wanted → IsCallOf m wanted
-  kept_name (call at owner name arity) wanted is = call_found at owner name arity wanted (found seen owner name arity) refl is
+  kept_name (call at owner name arity more negated) wanted is = call_found at owner name arity more negated wanted (found seen owner name arity) refl is
   kept_name (fault at) wanted is = absurd (none-some wanted is)
 
-  name_kept : (m : Met) (at : ℕ) (wanted : PredName) → m ≡ call at wanted.module wanted.name wanted.arity → found seen wanted.module wanted.name wanted.arity ≡ None
+  name_kept : (m : Met) (at more : ℕ) (negated : Bool) (wanted : PredName) → m ≡ call at wanted.module wanted.name wanted.arity more negated → found seen wanted.module wanted.name wanted.arity ≡ None
       → unresolved seen m ≡ Some wanted
-  name_kept m at wanted same none = ap (unresolved seen) same ∙ ap (unless_found wanted) none
+  name_kept m at more negated wanted same none = ap (unresolved seen) same ∙ ap (unless_found wanted) none
 
   pub names_kept : (met : List MetKept) (old new : List PredName) → Adds (IsAmong IsKeptName met) old new → Adds (IsUnresolvedOf seen (Contains (see_mets met))) old new
   names_kept met old new adds =
@@ -66,16 +70,24 @@ module _ (seen : Seen) where
       let one = kept_name (see_met among.one) name among.is in
       record {
         at = one.at;
-        met = (map_has see_met met (call one.at name.module name.name name.arity)).1 (record { one = among.one; has = among.has; is = one.same });
+        added = one.added;
+        negated = one.negated;
+        met = (map_has see_met met (call one.at name.module name.name name.arity one.added one.negated)).1 (record { one = among.one; has = among.has; is = one.same });
         means_none = one.none;
       })
       (λ name is.
-      let kept = (map_has see_met met (call is.at name.module name.name name.arity)).0 is.met in
-      record { one = kept.one; has = kept.has; is = name_kept (see_met kept.one) is.at name kept.is is.means_none })
+      let kept = (map_has see_met met (call is.at name.module name.name name.arity is.added is.negated)).0 is.met in
+      record { one = kept.one; has = kept.has; is = name_kept (see_met kept.one) is.at is.added is.negated name kept.is is.means_none })
       adds
 
   pub unresolved_as : (P Q : Met → Type 0) (name : PredName) → ((m : Met) → P m → Q m) → IsUnresolvedOf seen P name → IsUnresolvedOf seen Q name
-  unresolved_as P Q name to un = record { at = un.at; met = to (call un.at name.module name.name name.arity) un.met; means_none = un.means_none }
+  unresolved_as P Q name to un = record {
+    at = un.at;
+    added = un.added;
+    negated = un.negated;
+    met = to (call un.at name.module name.name name.arity un.added un.negated) un.met;
+    means_none = un.means_none;
+  }
 
   -- those of what is met in a predicate
   pub node_names : (node : ℕ) (met : List Met) (old new : List PredName) → ((m : Met) → Contains met m ↔ IsMetIn seen node m) → old ≡ []
@@ -94,11 +106,17 @@ module _ (seen : Seen) where
         λ has.
             let one = given.0 (record { one = name; has = has; is = refl }) in
             let named = kept_name one.one name (one.is.is ∙ ap (λ n. Some n) one.is.holds) in
-            record { at = named.at; met = subst (IsMetIn seen node) named.same ((are one.one).0 one.has); means_none = named.none },
+            record {
+              at = named.at;
+              added = named.added;
+              negated = named.negated;
+              met = subst (IsMetIn seen node) named.same ((are one.one).0 one.has);
+              means_none = named.none;
+            },
         λ un.
-            let m = call un.at name.module name.name name.arity in
+            let m = call un.at name.module name.name name.arity un.added un.negated in
             let back =
-            given.1 (record { one = m; has = (are m).1 un.met; is = record { one = name; is = name_kept m un.at name refl un.means_none; holds = refl } }) in
+            given.1 (record { one = m; has = (are m).1 un.met; is = record { one = name; is = name_kept m un.at un.added un.negated name refl un.means_none; holds = refl } }) in
             subst (Contains (filter_map (unresolved seen) met)) back.is back.has,
       )
 

@@ -9,8 +9,8 @@ use Rattle.prolog_terms.specs.Tree.{Tree, Trees, variable, constant, atom, compo
 use Rattle.prolog_terms.specs.Views.{trees_in}
 use Rattle.prolog_terms.specs.Weight.{weight}
 use Rattle.module_table.specs.Metas.{added}
-use Rattle.module_table.specs.declared.goal_arg.GoalArg.{GoalArg}
-use Rattle.call_edges.specs.Goals.{Met, place, Rows, Taken, taken, role_at, atom_met, constant_met, curly_role, AddsMet}
+use Rattle.call_edges.specs.declared.role.Role.{Role}
+use Rattle.call_edges.specs.Goals.{Met, place, Rows, Taken, taken, argument_role, atom_met, constant_met, curly_role, AddsMet}
 use Rattle.call_edges.proofs.AddedLemmas.{RowsWithin, argument_within}
 use Rattle.call_edges.proofs.PartLemmas.{part_count}
 use Rattle.call_edges.proofs.MetLemmas.{adds_own, adds_part, AddsFirst, first_all}
@@ -20,18 +20,18 @@ on_ok (Ok x) p then = then p
 on_ok (Err e) p then = tt
 
 -- an argument weighs less than its compound, and with what is added to it as little as it has to
-module _ (T : Rows) (within : RowsWithin T) (owner : List ℕ) (role : GoalArg) (tree : Tree) (name : List ℕ) (args : Trees) (form : Form) (span : Span) (apart : Taken) where
-  pub part_falls : (i : ℕ) (part : Tree) (given : GoalArg) → compound name args form span ≡ tree → apart ≡ taken T span.from owner role name (trees_in args)
-      → slice_get (trees_in args) i ≡ Some part → given ≡ role_at apart.standing i → added role + 10 * weight tree ≤ 4294967295
-      → (weight part < weight tree) × (added given + 10 * weight part ≤ 4294967295)
+module _ (T : Rows) (within : RowsWithin T) (owner : List ℕ) (role : Role) (tree : Tree) (name : List ℕ) (args : Trees) (form : Form) (span : Span) (apart : Taken) where
+  pub part_falls : (i : ℕ) (part : Tree) (given : Role) → compound name args form span ≡ tree → apart ≡ taken T span.from owner role name (trees_in args)
+      → slice_get (trees_in args) i ≡ Some part → given ≡ argument_role apart i → added role.arg + 10 * weight tree ≤ 4294967295
+      → (weight part < weight tree) × (added given.arg + 10 * weight part ≤ 4294967295)
   part_falls i part given is same read stands small =
-      let own : given ≡ role_at (taken T span.from owner role name (trees_in args)).standing i = stands ∙ ap (λ (a : Taken). role_at a.standing i) same in
+      let own : given ≡ argument_role (taken T span.from owner role name (trees_in args)) i = stands ∙ ap (λ (a : Taken). argument_role a i) same in
       let few = slice_get_within (trees_in args) i part read in (
         omega (arith, part_count args i part read, few, ap weight is),
-        omega (arith, argument_within T within span.from owner role name args i part read, ap added own, ap weight is, small),
+        omega (arith, argument_within T within span.from owner role name args i part read, ap (λ (r : Role). added r.arg) own, ap weight is, small),
       )
 
-module _ (T : Rows) (owner : List ℕ) (role : GoalArg) (tree : Tree) (old new : List Met) where
+module _ (T : Rows) (owner : List ℕ) (role : Role) (tree : Tree) (old new : List Met) where
   -- what the walk has to add
   abbrev pub IsWalked : Tree → Type 0
   IsWalked tree = AddsMet T (place owner role tree) old new
@@ -49,7 +49,7 @@ module _ (T : Rows) (owner : List ℕ) (role : GoalArg) (tree : Tree) (old new :
   tailed_walked items end span is same = subst IsWalked is (adds_own T (place owner role (tailed items end span)) old new (λ q part. part) (nothing same))
 
   pub constant_walked : (kind : ConstKind) (minus : Bool) (value : Option ℕ) (span : Span) → constant kind minus value span ≡ tree
-      → new ≡ old ++ option_to_list (constant_met role kind span.from) → IsWalked tree
+      → new ≡ old ++ option_to_list (constant_met role.arg kind span.from) → IsWalked tree
   constant_walked kind minus value span is adds =
       subst IsWalked is (adds_own T (place owner role (constant kind minus value span)) old new (λ q part. part) adds)
 

@@ -10,12 +10,11 @@ use Rattle.module_table.specs.Defined.{Predicate}
 use Rattle.module_table.specs.Facts.{Facts}
 use Rattle.import_rules.specs.declared.home.Home.{Home}
 use Rattle.import_rules.specs.Program.{Seen, places_in}
-use Rattle.module_table.specs.declared.goal_arg.GoalArg.TheVariants.{Goal}
 use Rattle.call_edges.specs.declared.body.Body.{Body as BodyKept}
 use Rattle.call_edges.specs.declared.body.Content.{Content}
 use Rattle.call_edges.specs.declared.body.Content.TheVariants as kept
 use Rattle.module_table.specs.Metas.{added}
-use Rattle.call_edges.specs.Goals.{Met, Place, place, Rows, IsMet}
+use Rattle.call_edges.specs.Goals.{Met, Place, place, goal_role, Rows, IsMet}
 use Rattle.call_edges.specs.Calls.{body_of}
 
 -- a body, and the place of its file
@@ -26,7 +25,7 @@ pub record Body : Type 0 where
 -- where what a body is made of stands, in the module: goals are joined by commas
 abbrev pub content_at : List ℕ → Content → Place
 content_at owner (kept.Term role term) = place owner role (tree_of term)
-content_at owner (kept.Goals goals) = place owner (Goal 0) (body_tree (see_goals goals))
+content_at owner (kept.Goals goals) = place owner goal_role (body_tree (see_goals goals))
 
 -- its names
 abbrev pub names_in : Content → List (List ℕ)
@@ -71,7 +70,7 @@ bodies_in seen node = flat_map (bodies_at seen.loaded.files) (places_in seen nod
 
 -- a goal of a directive is a body too
 abbrev pub goal_body : ℕ → List ℕ → Tree → Body
-goal_body file owner goal = body_in file (place owner (Goal 0) goal)
+goal_body file owner goal = body_in file (place owner goal_role goal)
 
 -- the goals of directives of a file
 abbrev pub goals_of_file : ℕ × Facts → List Body
@@ -87,4 +86,4 @@ IsMetInBody T body m = IsMet T body.at m
 
 -- it weighs so little that the number of arguments of each call in it fits, though nine may be added at each term
 abbrev pub IsLight : Body → Type 0
-IsLight body = added body.at.role + 10 * weight body.at.tree ≤ 4294967295
+IsLight body = added body.at.role.arg + 10 * weight body.at.tree ≤ 4294967295

@@ -15,5 +15,5 @@ unless_found name None = Some name
 
 -- the name of a call that goes to no predicate
 abbrev pub unresolved : Seen → Met → Option PredName
-unresolved seen (call at owner name arity) = unless_found (pred_name owner name arity) (found seen owner name arity)
+unresolved seen (call at owner name arity more negated) = unless_found (pred_name owner name arity) (found seen owner name arity)
 unresolved seen (fault at) = None

@@ -5,13 +5,12 @@ use Rattle.prolog_terms.specs.Views.{sides_of}
 use Rattle.module_table.specs.Defined.{Predicate}
 use Rattle.module_table.specs.Facts.{Facts}
 use Rattle.import_rules.specs.Program.{Seen, places_in, found}
-use Rattle.module_table.specs.declared.goal_arg.GoalArg.TheVariants.{Goal, Grammar}
-use Rattle.call_edges.specs.Goals.{Met, call, fault, Place, place, Rows, IsMet}
+use Rattle.call_edges.specs.Goals.{Met, call, fault, Place, place, goal_role, grammar_role, Rows, IsMet}
 use Rattle.call_edges.specs.ProgramRows.{rows_of}
 
 abbrev pub body_by : List ℕ → Option (Tree × Tree) → Option (Tree × Tree) → Option Place
-body_by owner (Some rule) grammar = Some (place owner (Goal 0) rule.1)
-body_by owner None (Some grammar) = Some (place owner Grammar grammar.1)
+body_by owner (Some rule) grammar = Some (place owner goal_role rule.1)
+body_by owner None (Some grammar) = Some (place owner grammar_role grammar.1)
 body_by owner None None = None
 
 -- the body of a clause: of a rule a goal, and of a grammar rule a grammar body
@@ -44,7 +43,7 @@ IsMetIn seen node m = IsAmong (IsMetAt (rows_of seen) seen.loaded.files) (places
 
 -- the predicate that a call goes to
 abbrev pub target : Seen → Met → Option ℕ
-target seen (call at owner name arity) = found seen owner name arity
+target seen (call at owner name arity more negated) = found seen owner name arity
 target seen (fault at) = None
 
 -- something of which this is true goes to predicate q
@@ -59,4 +58,4 @@ NodeCalls seen p q = GoesTo seen (IsMetIn seen p) q
 
 -- this is met in a goal directive of the file
 abbrev pub IsMetInGoals : Rows → Facts → Met → Type 0
-IsMetInGoals T file m = IsAmong (λ goal. IsMet T (place file.module_ (Goal 0) goal)) file.goals m
+IsMetInGoals T file m = IsAmong (λ goal. IsMet T (place file.module_ goal_role goal)) file.goals m

@@ -17,7 +17,7 @@ use Rattle.call_edges.specs.GoalFaults.{IsMetInFile}
 
 -- the offset, where it is that of a goal that isn't callable
 abbrev pub fault_at : Met → Option ℕ
-fault_at (call at owner name arity) = None
+fault_at (call at owner name arity more negated) = None
 fault_at (fault at) = Some at
 
 -- such a goal stands there, in the body

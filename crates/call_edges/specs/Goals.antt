@@ -1,5 +1,5 @@
 -- Where goals stand in a body, and what they call.
-use Rattle.std.specs.Prelude.{ℕ, ◌≡◌, ◌+◌, ◌-◌, ◌==◌, ◌&&◌, ◌||◌, ◌⊎◌, ◌↔◌, List, [], ◌∷◌, Option, Some, None, Bool, true, false, if◌then◌else◌, codes, length}
+use Rattle.std.specs.Prelude.{ℕ, ◌≡◌, ◌+◌, ◌-◌, ◌==◌, ◌&&◌, ◌⊎◌, ◌↔◌, not, List, [], ◌∷◌, Option, Some, None, Bool, true, false, if◌then◌else◌, codes, length}
 use Rattle.std.specs.Prelude.{slice_get, slice_index_or, Contains}
 use Rattle.std.specs.Str.{bytes_eq}
 use Rattle.prolog_terms.specs.declared.term.ConstKind.{ConstKind}
@@ -10,19 +10,33 @@ use Rattle.module_table.specs.Heads.{is_among}
 use Rattle.module_table.specs.declared.goal_arg.GoalArg.{GoalArg}
 use Rattle.module_table.specs.declared.goal_arg.GoalArg.TheVariants.{Plain, Goal, Caret, Grammar}
 use Rattle.module_table.specs.Metas.{added}
+use Rattle.call_edges.specs.declared.role.Role.{Role}
 use Rattle.call_edges.specs.declared.role.Row.{Row}
 use Rattle.call_edges.specs.declared.role.Way.{Way}
-use Rattle.call_edges.specs.declared.role.Way.TheVariants.{Silent, Behind, Control, Qualified, Calling}
+use Rattle.call_edges.specs.declared.role.Way.TheVariants.{Silent, Behind, Control, Negation, Qualified, Calling}
 
--- a call of a predicate of a module, with the offset at which its goal starts, or where a goal stands that isn't callable
+-- a call of a predicate of a module by its name and arity, with the offset at which its goal starts, how many of its arguments are added to the goal, and
+-- whether it is negated; or where a goal stands that isn't callable
 pub data Met : Type 0 where
-  call : ℕ → List ℕ → List ℕ → ℕ → Met
+  call : ℕ → List ℕ → List ℕ → ℕ → ℕ → Bool → Met
   fault : ℕ → Met
+
+-- the role of a body, which isn't negated
+abbrev pub body_role : GoalArg → Role
+body_role arg = record { arg = arg; negated = false }
+
+-- that of a goal, and that of a grammar body
+
+abbrev pub goal_role : Role
+goal_role = body_role (Goal 0)
+
+abbrev pub grammar_role : Role
+grammar_role = body_role Grammar
 
 -- a term in a body of a module
 pub record Place : Type 0 where
   pub module_ : List ℕ
-  pub role : GoalArg
+  pub role : Role
   pub tree : Tree
 
 -- the table of the predicates that take goals
@@ -96,16 +110,19 @@ plain_rows owner name arity = by_table (row name arity)
 -- what a compound is to the body that it stands in
 
 abbrev pub is_control : List ℕ → ℕ → Bool
-is_control name count =
-    (count == 2 && is_among (codes "," ∷ codes ";" ∷ codes "|" ∷ codes "->" ∷ []) name) || (count == 1 && bytes_eq name (codes "\\+"))
+is_control name count = count == 2 && is_among (codes "," ∷ codes ";" ∷ codes "|" ∷ codes "->" ∷ []) name
+
+abbrev pub is_negation : List ℕ → ℕ → Bool
+is_negation name count = count == 1 && bytes_eq name (codes "\\+")
 
 abbrev pub goal_way : Bool → List ℕ → ℕ → Way
 goal_way controls name count =
     if controls && is_control name count then Control
+    else if controls && is_negation name count then Negation
     else if count == 2 && bytes_eq name (codes ":") then Qualified
     else Calling
 
--- control constructs are those without added arguments, and those of grammar bodies
+-- control constructs and negations are those without added arguments, and those of grammar bodies
 abbrev pub way : GoalArg → List ℕ → ℕ → Way
 way Plain name count = Silent
 way (Goal e) name count = goal_way (e == 0) name count
@@ -119,11 +136,16 @@ settled (Goal e) = Goal e
 settled Caret = Goal 0
 settled Grammar = Grammar
 
--- what is met at a compound that starts there, and how its arguments stand in which module
+-- what is met at a compound that starts there, and how its arguments stand in which module, and whether they are negated
 pub record Taken : Type 0 where
   pub met : Option Met
   pub module_ : List ℕ
   pub standing : Standing
+  pub negated : Bool
+
+-- nothing is met
+abbrev pub unmet : List ℕ → Standing → Bool → Taken
+unmet module_ standing negated = record { met = None; module_ = module_; standing = standing; negated = negated }
 
 abbrev pub variable_at : Tree → Bool
 variable_at (variable span) = true
@@ -134,36 +156,52 @@ is_variable tree = variable_at (inside tree)
 
 -- a goal of the module that a term names: none of a variable, and a fault of another term
 
-abbrev pub goal_named : List ℕ → GoalArg → Tree → Option (List ℕ) → Taken
-goal_named owner role tree (Some name) = record { met = None; module_ = name; standing = by_row (second_only (settled role)) }
-goal_named owner role tree None = record { met = if is_variable tree then None else Some (fault (start_of tree)); module_ = owner; standing = no_goals }
+abbrev pub goal_named : List ℕ → Role → Tree → Option (List ℕ) → Taken
+goal_named owner role tree (Some name) = unmet name (by_row (second_only (settled role.arg))) role.negated
+goal_named owner role tree None = record {
+  met = if is_variable tree then None else Some (fault (start_of tree));
+  module_ = owner;
+  standing = no_goals;
+  negated = role.negated;
+}
 
-abbrev pub goal_of : List ℕ → GoalArg → Tree → Taken
+abbrev pub goal_of : List ℕ → Role → Tree → Taken
 goal_of owner role tree = goal_named owner role tree (atom_name tree)
 
-abbrev pub qualified_taken : List ℕ → GoalArg → List Tree → Taken
+abbrev pub qualified_taken : List ℕ → Role → List Tree → Taken
 qualified_taken owner role (tree ∷ trees) = goal_of owner role tree
-qualified_taken owner role [] = record { met = None; module_ = owner; standing = no_goals }
+qualified_taken owner role [] = unmet owner no_goals role.negated
 
-abbrev pub taken_by : Rows → Way → ℕ → List ℕ → GoalArg → List ℕ → List Tree → Taken
-taken_by T Silent at module_ role name args = record { met = None; module_ = module_; standing = no_goals }
-taken_by T Behind at module_ role name args = record { met = None; module_ = module_; standing = by_row (second_only Caret) }
-taken_by T Control at module_ role name args = record { met = None; module_ = module_; standing = by_row (first_two (settled role)) }
+abbrev pub taken_by : Rows → Way → ℕ → List ℕ → Role → List ℕ → List Tree → Taken
+taken_by T Silent at module_ role name args = unmet module_ no_goals role.negated
+taken_by T Behind at module_ role name args = unmet module_ (by_row (second_only Caret)) role.negated
+taken_by T Control at module_ role name args = unmet module_ (by_row (first_two (settled role.arg))) role.negated
+taken_by T Negation at module_ role name args = unmet module_ (by_row (first_only (settled role.arg))) true
 taken_by T Qualified at module_ role name args = qualified_taken module_ role args
 taken_by T Calling at module_ role name args =
-    let arity = length args + added role in record { met = Some (call at module_ name arity); module_ = module_; standing = T module_ name arity }
+    let arity = length args + added role.arg in
+    record {
+      met = Some (call at module_ name arity (added role.arg) role.negated);
+      module_ = module_;
+      standing = T module_ name arity;
+      negated = role.negated;
+    }
 
-abbrev pub taken : Rows → ℕ → List ℕ → GoalArg → List ℕ → List Tree → Taken
-taken T at module_ role name args = taken_by T (way role name (length args)) at module_ role name args
+abbrev pub taken : Rows → ℕ → List ℕ → Role → List ℕ → List Tree → Taken
+taken T at module_ role name args = taken_by T (way role.arg name (length args)) at module_ role name args
 
 -- what is met at a place itself
 
 -- `[]`, `{}` and `!` call nothing in a grammar body
-abbrev pub atom_met : ℕ → List ℕ → GoalArg → List ℕ → Option Met
-atom_met at module_ Plain name = None
-atom_met at module_ (Goal e) name = Some (call at module_ name e)
-atom_met at module_ Caret name = Some (call at module_ name 0)
-atom_met at module_ Grammar name = if is_among (codes "[]" ∷ codes "{}" ∷ codes "!" ∷ []) name then None else Some (call at module_ name 2)
+abbrev pub calls_atom : GoalArg → List ℕ → Bool
+calls_atom Plain name = false
+calls_atom (Goal e) name = true
+calls_atom Caret name = true
+calls_atom Grammar name = not (is_among (codes "[]" ∷ codes "{}" ∷ codes "!" ∷ []) name)
+
+abbrev pub atom_met : ℕ → List ℕ → Role → List ℕ → Option Met
+atom_met at module_ role name =
+    if calls_atom role.arg name then Some (call at module_ name (added role.arg) (added role.arg) role.negated) else None
 
 abbrev pub is_text : ConstKind → Bool
 is_text Str = true
@@ -178,8 +216,8 @@ constant_met (Goal e) kind at = Some (fault at)
 constant_met Caret kind at = Some (fault at)
 constant_met Grammar kind at = if is_text kind then None else Some (fault at)
 
-abbrev pub met_at : Rows → List ℕ → GoalArg → Tree → Option Met
-met_at T module_ role (constant kind minus value span) = constant_met role kind span.from
+abbrev pub met_at : Rows → List ℕ → Role → Tree → Option Met
+met_at T module_ role (constant kind minus value span) = constant_met role.arg kind span.from
 met_at T module_ role (atom name span) = atom_met span.from module_ role name
 met_at T module_ role (compound name args form span) = (taken T span.from module_ role name (trees_in args)).met
 met_at T module_ role _ = None
@@ -195,24 +233,30 @@ role_at no_goals i = Plain
 role_at (by_row row) i = row_role row i
 role_at (as_declared args) i = slice_index_or args i Plain
 
+abbrev pub argument_role : Taken → ℕ → Role
+argument_role apart i = record { arg = role_at apart.standing i; negated = apart.negated }
+
 -- the place is an argument of a compound
 pub record IsArgument (apart : Taken) (args : List Tree) (q : Place) : Type 0 where
   pub i : ℕ
   pub argument : slice_get args i ≡ Some q.tree
   pub in_module : q.module_ ≡ apart.module_
-  pub stands : q.role ≡ role_at apart.standing i
+  pub stands : q.role ≡ argument_role apart i
 
 -- inner terms of curly brackets are goals in a grammar body
-abbrev pub curly_role : GoalArg → GoalArg
-curly_role Plain = Plain
-curly_role (Goal e) = Plain
-curly_role Caret = Plain
-curly_role Grammar = Goal 0
+abbrev pub curly_arg : GoalArg → GoalArg
+curly_arg Plain = Plain
+curly_arg (Goal e) = Plain
+curly_arg Caret = Plain
+curly_arg Grammar = Goal 0
 
-abbrev pub place : List ℕ → GoalArg → Tree → Place
+abbrev pub curly_role : Role → Role
+curly_role role = record { arg = curly_arg role.arg; negated = role.negated }
+
+abbrev pub place : List ℕ → Role → Tree → Place
 place module_ role tree = record { module_ = module_; role = role; tree = tree }
 
-abbrev pub IsPart : Rows → List ℕ → GoalArg → Tree → Place → Type 0
+abbrev pub IsPart : Rows → List ℕ → Role → Tree → Place → Type 0
 IsPart T module_ role (compound name args form span) q = IsArgument (taken T span.from module_ role name (trees_in args)) (trees_in args) q
 IsPart T module_ role (curly inner span) q = q ≡ place module_ (curly_role role) inner
 IsPart T module_ role (paren inner span) q = q ≡ place module_ role inner

@@ -1,8 +1,9 @@
 -- Calls that are kept with the places of their goals.
+use Rattle.std.specs.Bool.{beq}
 use Rattle.std.specs.Prelude.{ℕ, ◌≡◌, ◌<◌, ◌≤◌, ◌+◌, ◌*◌, ◌&&◌, List, Bool, Some, nat_eq, length, slice_get, slice_index_or, slice_range}
 use Rattle.std.specs.List.{flat_map, filter_map, list_any}
 use Rattle.std.specs.Option.{option_eq}
-use Rattle.import_rules.specs.Names.{is_same}
+use Rattle.std.specs.Str.{bytes_eq}
 use Rattle.import_rules.specs.Program.{Seen}
 use Rattle.call_edges.specs.declared.kept_calls.PieceCalls.{PieceCalls}
 use Rattle.call_edges.specs.declared.piece.TheConstants.{PIECE_SIZE}
@@ -21,9 +22,15 @@ body_calls seen caller body = filter_map (call_met seen body.file caller) (body_
 unfoldable pub calls_in : Seen → ℕ → List CallAt
 calls_in seen caller = flat_map (body_calls seen caller) (bodies_in seen caller)
 
--- whether two calls of one name stand at one place
+-- whether two calls are of one name, with as many arguments added, and both negated or neither
+abbrev pub same_callee : CallAt → CallAt → Bool
+same_callee a b =
+    bytes_eq a.callee.module b.callee.module
+    && (bytes_eq a.callee.name b.callee.name && (nat_eq a.callee.arity b.callee.arity && (nat_eq a.added b.added && beq a.negated b.negated)))
+
+-- and stand at one place
 abbrev pub same_name : CallAt → CallAt → Bool
-same_name a b = nat_eq a.file b.file && (nat_eq a.offset b.offset && (nat_eq a.caller b.caller && is_same a.callee b.callee))
+same_name a b = nat_eq a.file b.file && (nat_eq a.offset b.offset && (nat_eq a.caller b.caller && same_callee a b))
 
 -- whether two calls are the same
 abbrev pub same_call : CallAt → CallAt → Bool

@@ -12,6 +12,7 @@ pub mod GoalFaults
 pub mod FaultPlaces
 pub mod Roots
 pub mod RootReasons
+pub mod Properties
 pub mod Unresolved
 pub mod Called
 pub mod CallLists

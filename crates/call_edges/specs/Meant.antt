@@ -13,7 +13,7 @@ IsMeaning target (Predicate node) = target ≡ Some node
 IsMeaning target Nothing = target ≡ None
 
 abbrev pub IsMeant : Seen → Met → Type 0
-IsMeant seen (Call at owner name number arity meant) = IsMeaning (found seen owner.now name.now arity) meant
+IsMeant seen (Call at owner name number arity more negated meant) = IsMeaning (found seen owner.now name.now arity) meant
 IsMeant seen (Fault at) = Unit {0}
 
 abbrev pub AreMeant : Seen → List Met → Type 0

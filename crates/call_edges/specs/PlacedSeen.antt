@@ -13,6 +13,8 @@ see_call c = record {
   offset = c.named.offset;
   caller = c.named.caller;
   callee = pred_name c.named.module.now c.named.name.now c.named.arity;
+  added = c.named.added;
+  negated = c.named.negated;
   means = c.callee;
 }
 
@@ -21,8 +23,8 @@ see_calls calls = map see_call calls
 
 -- the call in that file and by that predicate to what its name means, where what is met is one
 abbrev pub call_to : Option ℕ → ℕ → ℕ → Met → Option CallAt
-call_to means file caller (call at owner name arity) =
-    Some (record { file = file; offset = at; caller = caller; callee = pred_name owner name arity; means = means })
+call_to means file caller (call at owner name arity more negated) =
+    Some (record { file = file; offset = at; caller = caller; callee = pred_name owner name arity; added = more; negated = negated; means = means })
 call_to means file caller (fault at) = None
 
 -- the same, with what its name means in the program

@@ -8,7 +8,7 @@ use Rattle.call_edges.specs.declared.role.Taken.{Taken as TakenKept}
 use Rattle.call_edges.specs.Goals.{Met, call, fault, Standing, no_goals, by_row, as_declared, Taken}
 
 abbrev pub see_met : MetKept → Met
-see_met (kept.Call at owner name number arity meant) = call at owner.now name.now arity
+see_met (kept.Call at owner name number arity more negated meant) = call at owner.now name.now arity more negated
 see_met (kept.Fault at) = fault at
 
 abbrev pub see_mets : List MetKept → List Met
@@ -20,4 +20,4 @@ see_standing (kept_standing.ByRow row) = by_row row
 see_standing (kept_standing.Declared args) = as_declared args.now
 
 abbrev pub see_taken : TakenKept → Taken
-see_taken t = record { met = option_map see_met t.met; module_ = t.module.now; standing = see_standing t.standing }
+see_taken t = record { met = option_map see_met t.met; module_ = t.module.now; standing = see_standing t.standing; negated = t.negated }

@@ -1,5 +1,5 @@
 -- Calls that go to no predicate.
-use Rattle.std.specs.Prelude.{ℕ, ◌≡◌, List, None, All, AllPairs, Contains}
+use Rattle.std.specs.Prelude.{ℕ, ◌≡◌, Bool, List, None, All, AllPairs, Contains}
 use Rattle.std.specs.declared.cmp.Ordering.TheVariants.{Less}
 use Rattle.import_rules.specs.declared.names.PredName.{PredName}
 use Rattle.import_rules.specs.Names.{pred_cmp}
@@ -10,7 +10,9 @@ use Rattle.call_edges.specs.Calls.{IsMetIn}
 -- a call for which this holds has the name, which means no predicate
 pub record IsUnresolvedOf (seen : Seen) (P : Met → Type 0) (name : PredName) : Type 0 where
   pub at : ℕ
-  pub met : P (call at name.module name.name name.arity)
+  pub added : ℕ
+  pub negated : Bool
+  pub met : P (call at name.module name.name name.arity added negated)
   pub means_none : found seen name.module name.name name.arity ≡ None
 
 -- the predicate of that number calls the name, and it means none

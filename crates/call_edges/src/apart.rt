@@ -5,23 +5,23 @@ ghost use Rattle.prolog_terms.specs.Tree.{count};
 ghost use Rattle.prolog_terms.specs.Terms.{tree_of, trees_of};
 ghost use Rattle.prolog_terms.specs.Views.{trees_in};
 ghost use Rattle.module_table.specs.Metas.{added};
-ghost use Rattle.call_edges.specs.Goals.{is_control, goal_way, way, settled, is_variable, goal_of, qualified_taken, row, taken};
+ghost use Rattle.call_edges.specs.Goals.{is_control, is_negation, goal_way, way, settled, is_variable, goal_of, qualified_taken, row, taken, unmet};
 ghost use Rattle.call_edges.specs.Meant.{IsMeaning, IsMeant};
 ghost use Rattle.call_edges.specs.ProgramRows.{rows_of, standing_by};
 ghost use Rattle.import_rules.specs.Program.{Seen, found, meta_meant};
 ghost use Rattle.call_edges.specs.Seen.{see_standing, see_taken};
 
-use crate::role::{Meaning, Meant, Met, Standing, Taken, Way};
-use crate::table::{first_two, is_one_of, row_of, second_only};
+use crate::role::{Meaning, Meant, Met, Role, Standing, Taken, Way};
+use crate::table::{first_only, first_two, is_one_of, row_of, second_only};
 use import_rules::Program;
 use module_table::GoalArg;
 use prolog_terms::{Parts, Term, TermKind, atom_name, inside, start_of};
 
 /// How many arguments are added to those that are written.
-pub fn added(role: GoalArg) -> u32
-    ensures { result ≡ added role }
+pub fn added(arg: GoalArg) -> u32
+    ensures { result ≡ added arg }
 {
-    match role {
+    match arg {
         GoalArg::Plain => 0,
         GoalArg::Goal(more) => more,
         GoalArg::Caret => 0,
@@ -29,11 +29,11 @@ pub fn added(role: GoalArg) -> u32
     }
 }
 
-/// What a role is once the `V^`s before the goal are skipped.
-fn settled(role: GoalArg) -> GoalArg
-    ensures { result ≡ settled role }
+/// How a term is a goal once the `V^`s before the goal are skipped.
+fn settled(arg: GoalArg) -> GoalArg
+    ensures { result ≡ settled arg }
 {
-    match role {
+    match arg {
         GoalArg::Plain => GoalArg::Plain,
         GoalArg::Goal(more) => GoalArg::Goal(more),
         GoalArg::Caret => GoalArg::Goal(0),
@@ -44,11 +44,13 @@ fn settled(role: GoalArg) -> GoalArg
 fn is_control(name: &str, count: usize) -> bool
     ensures { result ≡ is_control name.now count }
 {
-    match count {
-        1 => name == "\\+",
-        2 => is_one_of(&[",", ";", "|", "->"], name),
-        _ => false,
-    }
+    count == 2 && is_one_of(&[",", ";", "|", "->"], name)
+}
+
+fn is_negation(name: &str, count: usize) -> bool
+    ensures { result ≡ is_negation name.now count }
+{
+    count == 1 && name == "\\+"
 }
 
 fn goal_way(controls: bool, name: &str, count: usize) -> Way
@@ -57,17 +59,20 @@ fn goal_way(controls: bool, name: &str, count: usize) -> Way
     if controls && is_control(name, count) {
         return Way::Control;
     }
+    if controls && is_negation(name, count) {
+        return Way::Negation;
+    }
     if count == 2 && name == ":" {
         return Way::Qualified;
     }
     Way::Calling
 }
 
-/// What a compound of this name with `count` arguments is, in this role.
-fn way_of(role: GoalArg, name: &str, count: usize) -> Way
-    ensures { result ≡ way role name.now count }
+/// What a compound of this name with `count` arguments is, if it is such a goal.
+fn way_of(arg: GoalArg, name: &str, count: usize) -> Way
+    ensures { result ≡ way arg name.now count }
 {
-    match role {
+    match arg {
         GoalArg::Plain => Way::Silent,
         GoalArg::Goal(more) => goal_way(more == 0, name, count),
         GoalArg::Caret => {
@@ -89,44 +94,47 @@ fn is_variable(term: &Term) -> bool
     }
 }
 
+/// A compound that is no goal itself.
+fn unmet<'a>(module: &'a str, standing: Standing<'a>, negated: bool) -> Taken<'a>
+    ensures taken { see_taken result ≡ unmet «module».now (see_standing standing.entry) negated }
+    ensures meant { (seen : Seen) → IfSome result.met (IsMeant seen) }
+{
+    Taken {
+        met: None,
+        module,
+        standing,
+        negated,
+    }
+}
+
 /// `M:G`, by the term for the module `M`.
-fn goal_of<'a>(owner: &'a str, role: GoalArg, module: &Term<'a>) -> Taken<'a>
+fn goal_of<'a>(owner: &'a str, role: Role, module: &Term<'a>) -> Taken<'a>
     ensures taken { see_taken result ≡ goal_of owner.now role (tree_of «module».now) }
     ensures meant { (seen : Seen) → IfSome result.met (IsMeant seen) }
 {
     if let Some(name) = atom_name(module) {
-        return Taken {
-            met: None,
-            module: name,
-            standing: Standing::ByRow(second_only(settled(role))),
-        };
+        let standing = Standing::ByRow(second_only(settled(role.arg)));
+        return unmet(name, standing, role.negated);
     }
     if is_variable(module) {
-        return Taken {
-            met: None,
-            module: owner,
-            standing: Standing::Silent,
-        };
+        return unmet(owner, Standing::Silent, role.negated);
     }
     Taken {
         met: Some(Met::Fault(start_of(module))),
         module: owner,
         standing: Standing::Silent,
+        negated: role.negated,
     }
 }
 
-fn qualified<'a>(owner: &'a str, role: GoalArg, args: &Parts<'a>) -> Taken<'a>
+fn qualified<'a>(owner: &'a str, role: Role, args: &Parts<'a>) -> Taken<'a>
     requires { count (trees_of args.now) ≡ 2 }
     ensures taken { see_taken result ≡ qualified_taken owner.now role (trees_in (trees_of args.now)) }
     ensures meant { (seen : Seen) → IfSome result.met (IsMeant seen) }
 {
     match args.pair() {
         Some((module, _goal)) => goal_of(owner, role, &module),
-        None => Taken {
-            met: None,
-            module: owner,
-            standing: Standing::Silent,
-        },
+        None => unmet(owner, Standing::Silent, role.negated),
     }
 }
 
@@ -180,34 +188,29 @@ pub fn take_apart<'a>(
     program: &'a Program,
     at: u32,
     owner: &'a str,
-    role: GoalArg,
+    role: Role,
     name: &'a str,
     number: u32,
     args: &Parts<'a>,
 ) -> Taken<'a>
-    requires { count (trees_of args.now) + added role ≤ 4294967295 }
+    requires { count (trees_of args.now) + added role.arg ≤ 4294967295 }
     ensures taken { see_taken result ≡ taken (rows_of program.now) at owner.now role name.now (trees_in (trees_of args.now)) }
     ensures meant { IfSome result.met (IsMeant program.now) }
 {
-    match way_of(role, name, args.len()) {
-        Way::Silent => Taken {
-            met: None,
-            module: owner,
-            standing: Standing::Silent,
-        },
-        Way::Behind => Taken {
-            met: None,
-            module: owner,
-            standing: Standing::ByRow(second_only(GoalArg::Caret)),
-        },
-        Way::Control => Taken {
-            met: None,
-            module: owner,
-            standing: Standing::ByRow(first_two(settled(role))),
-        },
+    let negated = role.negated;
+    match way_of(role.arg, name, args.len()) {
+        Way::Silent => unmet(owner, Standing::Silent, negated),
+        Way::Behind => unmet(owner, Standing::ByRow(second_only(GoalArg::Caret)), negated),
+        Way::Control => unmet(
+            owner,
+            Standing::ByRow(first_two(settled(role.arg))),
+            negated,
+        ),
+        Way::Negation => unmet(owner, Standing::ByRow(first_only(settled(role.arg))), true),
         Way::Qualified => qualified(owner, role, args),
         Way::Calling => {
-            let arity = args.len() as u32 + added(role);
+            let more = added(role.arg);
+            let arity = args.len() as u32 + more;
             let meaning = meaning_of(program, owner, name, arity);
             Taken {
                 met: Some(Met::Call {
@@ -216,10 +219,13 @@ pub fn take_apart<'a>(
                     name,
                     number,
                     arity,
+                    added: more,
+                    negated,
                     meant: meaning.meant,
                 }),
                 module: owner,
                 standing: standing_by(meaning.declared, name, arity),
+                negated,
             }
         }
     }

@@ -10,10 +10,11 @@ ghost use Rattle.import_rules.specs.Program.{Seen};
 ghost use Rattle.call_edges.specs.Calls.{body_of};
 ghost use Rattle.call_edges.specs.Bodies.{IsAtHome, IsHomeOf, content_at, names_in, see_body, clause_bodies, bodies_in, goal_body, goals_of_file, goals_in};
 
+use crate::role::{GOAL_ROLE, GRAMMAR_ROLE, Role};
 use clause_text::Clause;
 use import_rules::{Home, Program};
 use kept_clauses::{KeptClause, KeptGoals, PlainForm};
-use module_table::{DirectiveGoals, FileFacts, GoalArg};
+use module_table::{DirectiveGoals, FileFacts};
 use prolog_names::Names;
 use prolog_terms::{Term, binary};
 use std::alloc::{AllocError, Global};
@@ -22,7 +23,7 @@ use std::alloc::{AllocError, Global};
 /// form.
 #[derive(Clone, Copy)]
 pub enum Content<'a> {
-    Term { role: GoalArg, term: Term<'a> },
+    Term { role: Role, term: Term<'a> },
     Goals(KeptGoals<'a>),
 }
 
@@ -45,12 +46,16 @@ fn term_content<'a>(clause: &Term<'a>) -> Option<Content<'a>>
     let pair = binary(clause)?;
     let term = pair.right;
     if pair.name == ":-" {
-        let role = GoalArg::Goal(0);
-        return Some(Content::Term { role, term });
+        return Some(Content::Term {
+            role: GOAL_ROLE,
+            term,
+        });
     }
     if pair.name == "-->" {
-        let role = GoalArg::Grammar;
-        return Some(Content::Term { role, term });
+        return Some(Content::Term {
+            role: GRAMMAR_ROLE,
+            term,
+        });
     }
     None
 }
@@ -163,7 +168,7 @@ fn push_goals_in<'a>(
             file: place,
             owner: file.module.as_str(),
             content: Content::Term {
-                role: GoalArg::Goal(0),
+                role: GOAL_ROLE,
                 term: Term {
                     names: &file.names,
                     nodes: goals.list.nodes(),

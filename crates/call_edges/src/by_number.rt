@@ -15,7 +15,7 @@ ghost use Rattle.call_edges.specs.PlainCalls.{AreSides, IsMetAlone, IsPlain};
 ghost use Rattle.call_edges.specs.Seen.{see_met};
 
 use crate::apart::{added, meaning_of};
-use crate::role::{Meant, Met};
+use crate::role::{Meant, Met, Role};
 use import_rules::{Home, Program, found_means};
 use module_table::GoalArg;
 use prolog_names::{BAR, COMMA, KNOWN_COUNT, Names, known_law};
@@ -26,11 +26,11 @@ const SEMICOLON: u32 = 20;
 /// The number of `->` in each table of names.
 const ARROW: u32 = 21;
 
-/// Whether a term with this role is a goal.
-fn is_goal(role: GoalArg) -> bool
-    ensures { result ≡ true → role ≢ Plain }
+/// Whether a term is a goal at all.
+fn is_goal(arg: GoalArg) -> bool
+    ensures { result ≡ true → arg ≢ Plain }
 {
-    match role {
+    match arg {
         GoalArg::Plain => false,
         GoalArg::Goal(_) => true,
         GoalArg::Caret => true,
@@ -45,29 +45,29 @@ fn is_undeclared(declared: &[GoalArg]) -> bool
     declared.is_empty()
 }
 
-/// How many arguments a goal with these has in this role.
-fn arity_of(args: &Parts, role: GoalArg) -> u32
-    requires { count (trees_of args.now) + added role ≤ 4294967295 }
-    ensures { result ≡ count (trees_of args.now) + added role }
+/// How many arguments such a goal with these has.
+fn arity_of(args: &Parts, arg: GoalArg) -> u32
+    requires { count (trees_of args.now) + added arg ≤ 4294967295 }
+    ensures { result ≡ count (trees_of args.now) + added arg }
 {
-    args.len() as u32 + added(role)
+    args.len() as u32 + added(arg)
 }
 
 /// The number of the name of a goal and its arity, if the name isn't among the known ones. So it is
 /// no control construct, and the table doesn't have it. No text is compared.
-fn free_goal(term: &Term, role: GoalArg) -> Option<(u32, u32)>
-    requires { added role + 10 * weight (tree_of term.now) ≤ 4294967295 }
+fn free_goal(term: &Term, role: Role) -> Option<(u32, u32)>
+    requires { added role.arg + 10 * weight (tree_of term.now) ≤ 4294967295 }
     ensures { IfSome result (λ goal. IsPlain role (tree_of term.now) (name_at term.now.names.now goal.0) goal.1) }
 {
     known_law(term.names);
-    if !is_goal(role) {
+    if !is_goal(role.arg) {
         return None;
     }
     let (number, args) = number_and_args(term)?;
     if number < KNOWN_COUNT {
         return None;
     }
-    Some((number, arity_of(&args, role)))
+    Some((number, arity_of(&args, role.arg)))
 }
 
 /// The call that a term with this role is in a body of the module `owner`, if its name isn't among
@@ -76,9 +76,9 @@ pub fn plain_call<'a>(
     program: &'a Program,
     term: &Term<'a>,
     owner: &'a str,
-    role: GoalArg,
+    role: Role,
 ) -> Option<Met<'a>>
-    requires { added role + 10 * weight (tree_of term.now) ≤ 4294967295 }
+    requires { added role.arg + 10 * weight (tree_of term.now) ≤ 4294967295 }
     ensures met { IfSome result (λ met. IsMetAlone program.now owner.now role (tree_of term.now) (see_met met)) }
     ensures meant { IfSome result (IsMeant program.now) }
 {
@@ -94,6 +94,8 @@ pub fn plain_call<'a>(
         name,
         number,
         arity,
+        added: added(role.arg),
+        negated: role.negated,
         meant: meaning.meant,
     })
 }
@@ -122,8 +124,8 @@ pub fn meaning_found(callee: Option<u32>) -> Meant
 
 /// The call that a term with this role is in a body of the file's own module, if its name isn't
 /// among the known ones, and the predicate that it means declares no goals.
-pub fn home_call<'a>(home: &Home<'a>, term: &Term<'a>, role: GoalArg) -> Option<Met<'a>>
-    requires small { added role + 10 * weight (tree_of term.now) ≤ 4294967295 }
+pub fn home_call<'a>(home: &Home<'a>, term: &Term<'a>, role: Role) -> Option<Met<'a>>
+    requires small { added role.arg + 10 * weight (tree_of term.now) ≤ 4294967295 }
     requires names { term.now.names.now ≡ home.now.facts.now.names }
     ensures met { IfSome result (λ met. IsMetAlone home.now.program.now home.now.facts.now.module role (tree_of term.now) (see_met met)) }
     ensures meant { IfSome result (IsMeant home.now.program.now) }
@@ -140,16 +142,18 @@ pub fn home_call<'a>(home: &Home<'a>, term: &Term<'a>, role: GoalArg) -> Option<
         name: term.names.text(number),
         number,
         arity,
+        added: added(role.arg),
+        negated: role.negated,
         meant: meaning_found(callee),
     })
 }
 
-/// Whether control constructs are goals in this role, and their sides have it too.
-fn has_controls(role: GoalArg) -> bool
-    ensures way { result ≡ true → (name : List ℕ) (count : ℕ) → way role name count ≡ goal_way true name count }
-    ensures settled { result ≡ true → settled role ≡ role }
+/// Whether control constructs are such goals, and their sides are such goals too.
+fn has_controls(arg: GoalArg) -> bool
+    ensures way { result ≡ true → (name : List ℕ) (count : ℕ) → way arg name count ≡ goal_way true name count }
+    ensures settled { result ≡ true → settled arg ≡ arg }
 {
-    match role {
+    match arg {
         GoalArg::Plain => false,
         GoalArg::Goal(more) => more == 0,
         GoalArg::Caret => false,
@@ -172,11 +176,11 @@ fn is_control(names: &Names, number: u32) -> bool
 }
 
 /// The two sides of a term that is a control construct in this role.
-pub fn control_sides<'a>(term: &Term<'a>, role: GoalArg) -> Option<(Term<'a>, Term<'a>)>
+pub fn control_sides<'a>(term: &Term<'a>, role: Role) -> Option<(Term<'a>, Term<'a>)>
     ensures sides { IfSome result (λ pair. AreSides role (tree_of term.now) (tree_of pair.0) (tree_of pair.1)) }
     ensures within { IfSome result (λ pair. IsOf term.now.names.now term.now.nodes.now pair.0 × IsOf term.now.names.now term.now.nodes.now pair.1) }
 {
-    if !has_controls(role) {
+    if !has_controls(role.arg) {
         return None;
     }
     let (number, left, right) = numbered_binary(term)?;

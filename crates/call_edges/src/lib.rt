@@ -16,7 +16,7 @@
 //!   directives.
 //! - `roots_of` returns the predicates at which reachability begins. `roots_by_export`,
 //!   `roots_by_directive` and `roots_by_file` return those of each reason. `exported_of` returns
-//!   what modules export.
+//!   what modules export, and `declared_of` what directives declare `dynamic` or `multifile`.
 //! - `met_in` returns the goals in the clauses of one predicate, by the names that are written
 //!   there. `unresolved_of` returns those of the names that mean no predicate.
 //!
@@ -47,6 +47,7 @@ mod piece;
 mod placed;
 mod placed_calls;
 mod placed_lists;
+mod properties;
 mod role;
 mod root_reasons;
 mod roots;
@@ -66,6 +67,7 @@ pub use laws::{calls_told, one_list_of_faults, roots_below};
 pub use met::met_in;
 pub use placed_calls::{NamedCall, PlacedCall, calls_of};
 pub use placed_lists::PlacedCallLists;
+pub use properties::declared_of;
 pub use role::{Meant, Met};
 pub use root_reasons::{exported_of, roots_by_directive, roots_by_export, roots_by_file};
 pub use roots::roots_of;

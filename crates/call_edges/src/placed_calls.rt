@@ -14,7 +14,8 @@ use std::alloc::{AllocError, Global};
 
 /// A name that is called in a module, by a goal of a clause. `file` is the index of the clause's
 /// file among the files, and `offset` the byte offset at which the goal starts. `caller` is the
-/// number of the calling predicate. Such names are ordered by their fields in this order.
+/// number of the calling predicate. `added` of the arguments aren't written in the goal, and
+/// `negated` says whether a `\+` is around it. Such names are ordered by their fields in this order.
 #[derive(Clone, Copy, Debug, PartialEq, Eq, PartialOrd, Ord)]
 pub struct NamedCall<'a> {
     pub file: u32,
@@ -23,6 +24,8 @@ pub struct NamedCall<'a> {
     pub module: &'a str,
     pub name: &'a str,
     pub arity: u32,
+    pub added: u32,
+    pub negated: bool,
 }
 
 /// A call in a clause, and the number of the predicate that its name means in the module; `None` if
@@ -42,6 +45,8 @@ fn call_to<'a>(callee: Option<u32>, file: u32, caller: u32, met: Met<'a>) -> Opt
         module,
         name,
         arity,
+        added,
+        negated,
         ..
     } = met
     else {
@@ -55,6 +60,8 @@ fn call_to<'a>(callee: Option<u32>, file: u32, caller: u32, met: Met<'a>) -> Opt
             module,
             name,
             arity,
+            added,
+            negated,
         },
         callee,
     })

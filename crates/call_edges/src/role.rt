@@ -2,6 +2,25 @@
 
 use module_table::GoalArg;
 
+/// The role of a term in a body: how it is a goal, and whether it is negated, by a `\+` around it.
+#[derive(Clone, Copy, Debug, PartialEq, Eq)]
+pub struct Role {
+    pub arg: GoalArg,
+    pub negated: bool,
+}
+
+/// The role of a body that is a goal.
+pub const GOAL_ROLE: Role = Role {
+    arg: GoalArg::Goal(0),
+    negated: false,
+};
+
+/// The role of a grammar body.
+pub const GRAMMAR_ROLE: Role = Role {
+    arg: GoalArg::Grammar,
+    negated: false,
+};
+
 /// Which arguments of a predicate are goals. Those after the third aren't.
 #[derive(Clone, Copy, Debug, PartialEq, Eq)]
 pub struct Row {
@@ -17,8 +36,10 @@ pub enum Way {
     Silent,
     /// `V^G`, of which only `G` counts.
     Behind,
-    /// A control construct, whose arguments have its role.
+    /// A control construct of two goals, whose arguments have its role.
     Control,
+    /// `\+G`, whose argument has its role, and is negated.
+    Negation,
     /// `M:G`.
     Qualified,
     /// A call of the predicate of its name.
@@ -37,8 +58,8 @@ pub enum Meant {
 }
 
 /// A goal that occurs in a body: a call, with the byte offset at which its goal starts, or the byte
-/// offset of a goal that isn't callable. A call also has the number of its name in the names of its
-/// text, which makes the look-up faster.
+/// offset of a goal that isn't callable. `added` of its arguments aren't written in the goal. A call
+/// also has the number of its name in the names of its text, which makes the look-up faster.
 #[derive(Clone, Copy, Debug)]
 pub enum Met<'a> {
     Call {
@@ -47,6 +68,8 @@ pub enum Met<'a> {
         name: &'a str,
         number: u32,
         arity: u32,
+        added: u32,
+        negated: bool,
         meant: Meant,
     },
     Fault(u32),
@@ -71,11 +94,12 @@ pub struct Meaning<'a> {
     pub declared: &'a [GoalArg],
 }
 
-/// A compound of a body: the goal at the term itself, and how its arguments are goals, in which
-/// module.
+/// A compound of a body: the goal at the term itself, how its arguments are goals, in which module,
+/// and whether they are negated.
 #[derive(Clone, Copy, Debug)]
 pub struct Taken<'a> {
     pub met: Option<Met<'a>>,
     pub module: &'a str,
     pub standing: Standing<'a>,
+    pub negated: bool,
 }

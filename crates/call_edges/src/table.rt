@@ -17,7 +17,7 @@ pub fn is_one_of(words: &[&str], name: &str) -> bool
     words.iter().any(|word| *word == name)
 }
 
-fn first_only(role: GoalArg) -> Row
+pub fn first_only(role: GoalArg) -> Row
     ensures { result ≡ first_only role }
 {
     Row {

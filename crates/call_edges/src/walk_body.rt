@@ -4,9 +4,8 @@ ghost use Rattle.std.specs.Prelude.{◌≡◌, ◌≤◌, ◌*◌, OnOk};
 ghost use Rattle.prolog_terms.specs.Weight.{weight};
 ghost use Rattle.kept_clauses.specs.Plain.{body_tree, goal_tree};
 ghost use Rattle.kept_clauses.specs.Views.{see_goal, see_goals, HasNames};
-ghost use Rattle.module_table.specs.declared.goal_arg.GoalArg.TheVariants.{Goal};
 ghost use Rattle.call_edges.specs.Bodies.{see_body, IsAtHome, IsLight};
-ghost use Rattle.call_edges.specs.Goals.{place, Adds, AddsMet};
+ghost use Rattle.call_edges.specs.Goals.{goal_role, place, Adds, AddsMet};
 ghost use Rattle.call_edges.specs.KeptGoals.{IsMetInGoal};
 ghost use Rattle.call_edges.specs.Meant.{AreMeant};
 ghost use Rattle.call_edges.specs.ProgramRows.{rows_of};
@@ -14,12 +13,11 @@ ghost use Rattle.call_edges.specs.Seen.{see_mets};
 
 use crate::body::{Body, Content};
 use crate::by_number::meaning_found;
-use crate::role::{Meant, Met};
+use crate::role::{GOAL_ROLE, Meant, Met};
 use crate::walk_home::walk_home;
 use crate::walking::{push_met, walk};
 use import_rules::{Home, Program, found_means};
 use kept_clauses::{KeptGoal, KeptGoals};
-use module_table::GoalArg;
 use prolog_names::Names;
 use std::alloc::{AllocError, Global};
 
@@ -38,7 +36,7 @@ fn walk_goal<'a>(
     ensures meant { OnOk result (AreMeant program.now met.old.items → AreMeant program.now met.new.items) }
 {
     match goal {
-        KeptGoal::Whole(term) => walk(alloc, program, term, owner, GoalArg::Goal(0), met),
+        KeptGoal::Whole(term) => walk(alloc, program, term, owner, GOAL_ROLE, met),
         KeptGoal::Call(call) => {
             let call = Met::Call {
                 at: call.at,
@@ -46,6 +44,8 @@ fn walk_goal<'a>(
                 name: names.text(call.number),
                 number: call.number,
                 arity: call.arity,
+                added: 0,
+                negated: false,
                 meant: Meant::Unasked,
             };
             push_met(met, Some(call))
@@ -62,7 +62,7 @@ fn walk_goals<'a>(
     met: &mut Vec<Met<'a>>,
 ) -> Result<(), AllocError>
     requires small { 10 * weight (body_tree (see_goals goals.now)) ≤ 4294967295 }
-    ensures met { OnOk result (AddsMet (rows_of program.now) (place owner.now (Goal 0) (body_tree (see_goals goals.now)))
+    ensures met { OnOk result (AddsMet (rows_of program.now) (place owner.now goal_role (body_tree (see_goals goals.now)))
         (see_mets met.old.items) (see_mets met.new.items)) }
     ensures meant { OnOk result (AreMeant program.now met.old.items → AreMeant program.now met.new.items) }
 {
@@ -108,7 +108,7 @@ fn walk_goal_home<'a>(
     ensures meant { OnOk result (AreMeant home.now.program.now met.old.items → AreMeant home.now.program.now met.new.items) }
 {
     match goal {
-        KeptGoal::Whole(term) => walk_home(alloc, home, term, GoalArg::Goal(0), met),
+        KeptGoal::Whole(term) => walk_home(alloc, home, term, GOAL_ROLE, met),
         KeptGoal::Call(call) => {
             found_means();
             let callee = home.find(call.number, call.arity);
@@ -118,6 +118,8 @@ fn walk_goal_home<'a>(
                 name: names.text(call.number),
                 number: call.number,
                 arity: call.arity,
+                added: 0,
+                negated: false,
                 meant: meaning_found(callee),
             };
             push_met(met, Some(call))
@@ -134,7 +136,7 @@ fn walk_goals_home<'a>(
 ) -> Result<(), AllocError>
     requires small { 10 * weight (body_tree (see_goals goals.now)) ≤ 4294967295 }
     requires names { goals.now.names.now ≡ home.now.facts.now.names }
-    ensures met { OnOk result (AddsMet (rows_of home.now.program.now) (place home.now.facts.now.module (Goal 0) (body_tree (see_goals goals.now)))
+    ensures met { OnOk result (AddsMet (rows_of home.now.program.now) (place home.now.facts.now.module goal_role (body_tree (see_goals goals.now)))
         (see_mets met.old.items) (see_mets met.new.items)) }
     ensures meant { OnOk result (AreMeant home.now.program.now met.old.items → AreMeant home.now.program.now met.new.items) }
 {

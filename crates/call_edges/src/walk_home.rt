@@ -10,10 +10,9 @@ ghost use Rattle.call_edges.specs.ProgramRows.{rows_of};
 ghost use Rattle.call_edges.specs.Seen.{see_mets};
 
 use crate::by_number::{control_sides, home_call};
-use crate::role::Met;
+use crate::role::{Met, Role};
 use crate::walking::{push_met, walk};
 use import_rules::Home;
-use module_table::GoalArg;
 use prolog_terms::Term;
 use std::alloc::{AllocError, Global};
 
@@ -25,10 +24,10 @@ pub fn walk_home<'a>(
     alloc: Global,
     home: &Home<'a>,
     term: &Term<'a>,
-    role: GoalArg,
+    role: Role,
     met: &mut Vec<Met<'a>>,
 ) -> Result<(), AllocError>
-    requires small { added role + 10 * weight (tree_of term.now) ≤ 4294967295 }
+    requires small { added role.arg + 10 * weight (tree_of term.now) ≤ 4294967295 }
     requires names { term.now.names.now ≡ home.now.facts.now.names }
     ensures met { OnOk result (AddsMet (rows_of home.now.program.now) (place home.now.facts.now.module role (tree_of term.now))
         (see_mets met.old.items) (see_mets met.new.items)) }

@@ -5,28 +5,28 @@ ghost use Rattle.std.specs.Option.{option_to_list};
 ghost use Rattle.prolog_terms.specs.Terms.{tree_of};
 ghost use Rattle.prolog_terms.specs.Weight.{weight};
 ghost use Rattle.module_table.specs.Metas.{added};
-ghost use Rattle.call_edges.specs.Goals.{atom_met, constant_met, curly_role, row_role, role_at, no_goals, place, AddsMet};
+ghost use Rattle.call_edges.specs.Goals.{argument_role, atom_met, calls_atom, constant_met, curly_arg, curly_role, row_role, role_at, no_goals, place, AddsMet};
 ghost use Rattle.call_edges.specs.Meant.{AreMeant, IsMeant};
 ghost use Rattle.call_edges.specs.ProgramRows.{rows_of};
-ghost use Rattle.call_edges.specs.Seen.{see_met, see_mets, see_standing};
+ghost use Rattle.call_edges.specs.Seen.{see_met, see_mets, see_standing, see_taken};
 ghost use Rattle.import_rules.specs.Program.{Seen};
 
-use crate::apart::take_apart;
+use crate::apart::{added, take_apart};
 use crate::by_number::plain_call;
-use crate::role::{Meant, Met, Row, Standing};
+use crate::role::{Meant, Met, Role, Row, Standing, Taken};
 use crate::table::is_one_of;
 use import_rules::Program;
 use module_table::GoalArg;
 use prolog_terms::{ConstKind, Term, TermKind, number_and_arity};
 use std::alloc::{AllocError, Global};
 
-/// The goal at a constant in this role, at this byte offset. No constant is callable, except that
-/// texts are allowed in grammar bodies.
-fn constant_met<'a>(role: GoalArg, kind: ConstKind, at: u32) -> Option<Met<'a>>
-    ensures met { option_map see_met result ≡ constant_met role kind at }
+/// The goal at a constant at this byte offset. No constant is callable, except that texts are allowed
+/// in grammar bodies.
+fn constant_met<'a>(arg: GoalArg, kind: ConstKind, at: u32) -> Option<Met<'a>>
+    ensures met { option_map see_met result ≡ constant_met arg kind at }
     ensures meant { (seen : Seen) → IfSome result (IsMeant seen) }
 {
-    match role {
+    match arg {
         GoalArg::Plain => None,
         GoalArg::Goal(_) => Some(Met::Fault(at)),
         GoalArg::Caret => Some(Met::Fault(at)),
@@ -39,44 +39,44 @@ fn constant_met<'a>(role: GoalArg, kind: ConstKind, at: u32) -> Option<Met<'a>>
     }
 }
 
-/// The goal at an atom in this role, at this byte offset. `[]`, `{}` and `!` call nothing in a
-/// grammar body.
-fn atom_met<'a>(
-    at: u32,
-    owner: &'a str,
-    role: GoalArg,
-    name: &'a str,
-    number: u32,
-) -> Option<Met<'a>>
+/// Whether an atom is a call. `[]`, `{}` and `!` call nothing in a grammar body.
+fn calls_atom(arg: GoalArg, name: &str) -> bool
+    ensures { result ≡ calls_atom arg name.now }
+{
+    match arg {
+        GoalArg::Plain => false,
+        GoalArg::Goal(_) => true,
+        GoalArg::Caret => true,
+        GoalArg::Grammar => !is_one_of(&["[]", "{}", "!"], name),
+    }
+}
+
+/// The goal at an atom in this role, at this byte offset.
+fn atom_met<'a>(at: u32, owner: &'a str, role: Role, name: &'a str, number: u32) -> Option<Met<'a>>
     ensures met { option_map see_met result ≡ atom_met at owner.now role name.now }
     ensures meant { (seen : Seen) → IfSome result (IsMeant seen) }
 {
-    let arity = match role {
-        GoalArg::Plain => return None,
-        GoalArg::Goal(more) => more,
-        GoalArg::Caret => 0,
-        GoalArg::Grammar => {
-            if is_one_of(&["[]", "{}", "!"], name) {
-                return None;
-            }
-            2
-        }
-    };
+    if !calls_atom(role.arg, name) {
+        return None;
+    }
+    let more = added(role.arg);
     Some(Met::Call {
         at,
         module: owner,
         name,
         number,
-        arity,
+        arity: more,
+        added: more,
+        negated: role.negated,
         meant: Meant::Unasked,
     })
 }
 
-/// The role of the term in curly brackets: a goal in a grammar body.
-fn curly_role(role: GoalArg) -> GoalArg
-    ensures { result ≡ curly_role role }
+/// How the term in curly brackets is a goal: in a grammar body.
+fn curly_arg(arg: GoalArg) -> GoalArg
+    ensures { result ≡ curly_arg arg }
 {
-    match role {
+    match arg {
         GoalArg::Plain => GoalArg::Plain,
         GoalArg::Goal(_) => GoalArg::Plain,
         GoalArg::Caret => GoalArg::Plain,
@@ -84,7 +84,17 @@ fn curly_role(role: GoalArg) -> GoalArg
     }
 }
 
-/// The role of the argument at the index, by a row of the table.
+/// The role of the term in curly brackets.
+fn curly_role(role: Role) -> Role
+    ensures { result ≡ curly_role role }
+{
+    Role {
+        arg: curly_arg(role.arg),
+        negated: role.negated,
+    }
+}
+
+/// How the argument at the index is a goal, by a row of the table.
 fn role_in(row: Row, at: usize) -> GoalArg
     ensures { result ≡ row_role row at }
 {
@@ -96,8 +106,8 @@ fn role_in(row: Row, at: usize) -> GoalArg
     }
 }
 
-/// The role of the argument at the index.
-fn role_of(standing: Standing, at: usize) -> GoalArg
+/// How the argument at the index is a goal.
+fn arg_of(standing: Standing, at: usize) -> GoalArg
     ensures { result ≡ role_at (see_standing standing.entry) at }
 {
     match standing {
@@ -107,6 +117,16 @@ fn role_of(standing: Standing, at: usize) -> GoalArg
             Some(arg) => *arg,
             None => GoalArg::Plain,
         },
+    }
+}
+
+/// The role of the argument at the index.
+fn role_of(taken: &Taken, at: usize) -> Role
+    ensures { result ≡ argument_role (see_taken taken.now) at }
+{
+    Role {
+        arg: arg_of(taken.standing, at),
+        negated: taken.negated,
     }
 }
 
@@ -151,10 +171,10 @@ pub fn walk<'a>(
     program: &'a Program,
     term: &Term<'a>,
     owner: &'a str,
-    role: GoalArg,
+    role: Role,
     met: &mut Vec<Met<'a>>,
 ) -> Result<(), AllocError>
-    requires { added role + 10 * weight (tree_of term.now) ≤ 4294967295 }
+    requires { added role.arg + 10 * weight (tree_of term.now) ≤ 4294967295 }
     ensures met { OnOk result (AddsMet (rows_of program.now) (place owner.now role (tree_of term.now))
         (see_mets met.old.items) (see_mets met.new.items)) }
     ensures meant { OnOk result (AreMeant program.now met.old.items → AreMeant program.now met.new.items) }
@@ -164,7 +184,9 @@ pub fn walk<'a>(
     }
     match term.kind() {
         TermKind::Var => Ok(()),
-        TermKind::Const { kind, .. } => push_met(met, constant_met(role, kind, term.span().from)),
+        TermKind::Const { kind, .. } => {
+            push_met(met, constant_met(role.arg, kind, term.span().from))
+        }
         TermKind::Atom { name } => {
             let number = name_number(term);
             push_met(met, atom_met(term.span().from, owner, role, name, number))
@@ -177,18 +199,18 @@ pub fn walk<'a>(
             if is_silent(taken.standing) {
                 return Ok(());
             }
-            let first = role_of(taken.standing, 0);
+            let first = role_of(&taken, 0);
             if let Some(only) = args.only() {
                 return walk(alloc, program, &only, taken.module, first, met);
             }
             if let Some((left, right)) = args.pair() {
                 walk(alloc, program, &left, taken.module, first, met)?;
-                let second = role_of(taken.standing, 1);
+                let second = role_of(&taken, 1);
                 return walk(alloc, program, &right, taken.module, second, met);
             }
             let terms = args.to_vec(alloc)?;
             for (at, arg) in terms.iter().enumerate() {
-                let own = role_of(taken.standing, at);
+                let own = role_of(&taken, at);
                 walk(alloc, program, arg, taken.module, own, met)?;
             }
             Ok(())

@@ -15,10 +15,14 @@ use Rattle.std.proofs.lemmas.List.Kept.{Any-dedup, Contains-from_dedup, IsStrict
 use Rattle.std.proofs.lemmas.List.Sorted.{Contains-permutation, IsPermutation-sym}
 use Rattle.std.proofs.lemmas.Map.Keys.{Less-from_sorted}
 use Rattle.list_laws.proofs.Members.{all_by, stands_in}
+use Rattle.prolog_tokens.specs.Places.{IsOffset}
+use Rattle.prolog_terms.specs.Tree.{Tree}
+use Rattle.prolog_terms.specs.Views.{start_of}
 use Rattle.clause_text.specs.Offsets.{HasOffsets}
 use Rattle.clause_text.proofs.TermOffsets.{start_stands}
 use Rattle.module_table.specs.Defined.{Predicate}
 use Rattle.module_table.specs.Facts.{Facts}
+use Rattle.import_rules.specs.ClauseEnds.{IsClauseIn, end_of}
 use Rattle.import_rules.specs.Program.{Seen, places_in, IsKnown}
 use Rattle.file_library.specs.Spots.{StandsInText}
 use Rattle.call_edges.proofs.AmongLemmas.{flat_has, map_has}
@@ -31,54 +35,79 @@ pub clauses_at : (files : List Facts) (node : ℕ) (at : ℕ × ℕ) (file : Fac
     → clauses_there files node at ≡ map (clause_at at.0 node) predicate.clauses
 clauses_at files node at file predicate here there = ap (file_clauses at.0 at.1 node) here ∙ ap (part_clauses at.0 node) there
 
--- each clause stands in its text
-node_stands : (seen : Seen) (node : ℕ) (c : ClauseAt) → IsKnown seen → Contains (clauses_in seen node) c → StandsInText seen.loaded.texts c.file c.offset
-node_stands seen node c known has =
+-- a clause of a predicate is one of its file
+pub record IsFound (seen : Seen) (c : ClauseAt) : Type 0 where
+  pub file : Facts
+  pub at_place : slice_get seen.loaded.files c.file ≡ Some file
+  pub clause : Tree
+  pub own : IsClauseIn file clause
+  pub starts : start_of clause ≡ c.offset
+  pub ends : end_of clause ≡ c.end
+
+pub clause_found : (seen : Seen) (node : ℕ) (c : ClauseAt) → Contains (clauses_in seen node) c → IsFound seen c
+clause_found seen node c has =
     let files = seen.loaded.files in
     let place = (flat_has (clauses_there files node) (places_in seen node) c).0 has in
     let there = places_there seen node place.one place.has in
-    let text = zip_text seen.loaded.texts files place.one.0 there.file known.read there.at_place in
-    let in_part : Contains there.file.defined there.predicate = stands_in there.file.defined place.one.1 there.predicate there.at_part in
-    let clauses : All (HasOffsets text.0.1) there.predicate.clauses =
-    All-contains (λ (p : Predicate). All (HasOffsets text.0.1) p.clauses) there.file.defined there.predicate text.2.placed.of_clauses in_part in
     let one = (map_has (clause_at place.one.0 node) there.predicate.clauses c).0
     (subst (λ (cs : List ClauseAt). Contains cs c) (clauses_at files node place.one there.file there.predicate there.at_place there.at_part) place.is) in
-    let P : ClauseAt → Type 0 = λ x. StandsInText seen.loaded.texts x.file x.offset in
-    subst P one.is
-    (record { text = text.0; is = text.1; stands = start_stands text.0.1 one.one (All-contains (HasOffsets text.0.1) there.predicate.clauses one.one clauses one.has) })
+    record {
+      file = there.file;
+      at_place = ap (λ (x : ClauseAt). slice_get files x.file) (sym one.is) ∙ there.at_place;
+      clause = one.one;
+      own = record { predicate = there.predicate; defined = stands_in there.file.defined place.one.1 there.predicate there.at_part; has = one.has };
+      starts = ap (λ (x : ClauseAt). x.offset) one.is;
+      ends = ap (λ (x : ClauseAt). x.end) one.is;
+    }
+
+-- each clause stands in its text
+node_stands : (seen : Seen) (c : ClauseAt) → IsKnown seen → IsFound seen c → StandsInText seen.loaded.texts c.file c.offset
+node_stands seen c known found =
+    let text = zip_text seen.loaded.texts seen.loaded.files c.file found.file known.read found.at_place in
+    let own = found.own in
+    let clauses : All (HasOffsets text.0.1) own.predicate.clauses =
+    All-contains (λ (p : Predicate). All (HasOffsets text.0.1) p.clauses) found.file.defined own.predicate text.2.placed.of_clauses own.defined in
+    let stands = start_stands text.0.1 found.clause (All-contains (HasOffsets text.0.1) own.predicate.clauses found.clause clauses own.has) in
+    record { text = text.0; is = text.1; stands = subst (IsOffset text.0.1) found.starts stands }
 
 pub clauses_stand : (seen : Seen) (nodes : List ℕ) (clauses : List ClauseAt) → IsKnown seen → AreClausesOf seen nodes clauses
     → All (λ (c : ClauseAt). StandsInText seen.loaded.texts c.file c.offset) clauses
 clauses_stand seen nodes clauses known are =
     all_by (λ (c : ClauseAt). StandsInText seen.loaded.texts c.file c.offset) clauses
-    (λ c has. let among = (are.each c).0 has in node_stands seen among.one c known among.is)
+    (λ c has. let among = (are.each c).0 has in node_stands seen c known (clause_found seen among.one c among.is))
 
 -- sorted, and each once
 
 abbrev pub same_clause : ClauseAt → ClauseAt → Bool
-same_clause a b = nat_eq a.file b.file && (nat_eq a.offset b.offset && nat_eq a.node b.node)
+same_clause a b = nat_eq a.file b.file && (nat_eq a.offset b.offset && (nat_eq a.end b.end && nat_eq a.node b.node))
 
 pub clause_cmp_total : IsTotalOrder clause_cmp
 clause_cmp_total =
     then_total (on_total (λ (c : ClauseAt). c.file) nat_cmp_total)
-    (then_total (on_total (λ (c : ClauseAt). c.offset) nat_cmp_total) (on_total (λ (c : ClauseAt). c.node) nat_cmp_total))
+    (then_total (on_total (λ (c : ClauseAt). c.offset) nat_cmp_total)
+    (then_total (on_total (λ (c : ClauseAt). c.end) nat_cmp_total) (on_total (λ (c : ClauseAt). c.node) nat_cmp_total)))
 
 same_clause_ties : (a b : ClauseAt) → same_clause a b ≡ is_eq (clause_cmp a b)
-same_clause_ties a b = both_tied _ _ _ _ (unsigned_ties a.file b.file) (both_tied _ _ _ _ (unsigned_ties a.offset b.offset) (unsigned_ties a.node b.node))
+same_clause_ties a b =
+    both_tied _ _ _ _ (unsigned_ties a.file b.file)
+    (both_tied _ _ _ _ (unsigned_ties a.offset b.offset) (both_tied _ _ _ _ (unsigned_ties a.end b.end) (unsigned_ties a.node b.node)))
 
 clause_equiv : IsEquivalence same_clause
 clause_equiv =
     and_equiv (on_equiv (λ (c : ClauseAt). c.file) nat_eq_equiv)
-    (and_equiv (on_equiv (λ (c : ClauseAt). c.offset) nat_eq_equiv) (on_equiv (λ (c : ClauseAt). c.node) nat_eq_equiv))
+    (and_equiv (on_equiv (λ (c : ClauseAt). c.offset) nat_eq_equiv)
+    (and_equiv (on_equiv (λ (c : ClauseAt). c.end) nat_eq_equiv) (on_equiv (λ (c : ClauseAt). c.node) nat_eq_equiv)))
 
 same_clause_parts : (a b : ClauseAt) → same_clause a b ≡ true → a ≡ b
 same_clause_parts a b e =
-    let first = and_parts (nat_eq a.file b.file) (nat_eq a.offset b.offset && nat_eq a.node b.node) e in
-    let second = and_parts (nat_eq a.offset b.offset) (nat_eq a.node b.node) first.1 in
+    let first = and_parts (nat_eq a.file b.file) (nat_eq a.offset b.offset && (nat_eq a.end b.end && nat_eq a.node b.node)) e in
+    let second = and_parts (nat_eq a.offset b.offset) (nat_eq a.end b.end && nat_eq a.node b.node) first.1 in
+    let third = and_parts (nat_eq a.end b.end) (nat_eq a.node b.node) second.1 in
     let files : a.file ≡ b.file = (Decides-eqb a.file b.file).0 first.0 in
     let offsets : a.offset ≡ b.offset = (Decides-eqb a.offset b.offset).0 second.0 in
-    let nodes : a.node ≡ b.node = (Decides-eqb a.node b.node).0 second.1 in
-    λ i. record { file = files i; offset = offsets i; node = nodes i }
+    let ends : a.end ≡ b.end = (Decides-eqb a.end b.end).0 third.0 in
+    let nodes : a.node ≡ b.node = (Decides-eqb a.node b.node).0 third.1 in
+    λ i. record { file = files i; offset = offsets i; end = ends i; node = nodes i }
 
 pub all_clauses : (seen : Seen) (nodes : List ℕ) (clauses sorted kept : List ClauseAt) → clauses ≡ flat_map (clauses_in seen) nodes
     → IsPermutation clauses sorted → IsSorted clause_cmp sorted → IsFiltered (DiffersFromLast same_clause) [] sorted kept → AreClausesOf seen nodes kept

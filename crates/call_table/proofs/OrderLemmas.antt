@@ -8,6 +8,7 @@ use Rattle.call_edges.specs.Calls.{IsAmong}
 use Rattle.call_edges.specs.CallPlaces.{IsCallOf}
 use Rattle.call_edges.specs.declared.placed_calls.PlacedCall.{PlacedCall}
 use Rattle.call_table.specs.declared.clauses.ClauseAt.{ClauseAt}
+use Rattle.call_table.specs.declared.extents.Extent.{Extent}
 use Rattle.call_table.specs.Clauses.{clauses_in}
 use Rattle.call_table.specs.Table.{ArePlacedCalls, ArePlacedClauses}
 
@@ -24,8 +25,8 @@ module _ (seen : Seen) (order nodes : List ℕ) (same : IsPermutation nodes orde
   pub all_same : (P : ℕ → Type 0) → All P nodes → All P order
   all_same P all = All-permutation P nodes order same all
 
-  pub clauses_same : (clauses : List ClauseAt) (places : List Place) → ArePlacedClauses seen order clauses places → ArePlacedClauses seen nodes clauses places
-  clauses_same clauses places are =
+  pub clauses_same : (clauses : List ClauseAt) (extents : List Extent) → ArePlacedClauses seen order clauses extents → ArePlacedClauses seen nodes clauses extents
+  clauses_same clauses extents are =
       let P : ℕ → ClauseAt → Type 0 = λ node. Contains (clauses_in seen node) in
       record {
         are = record {

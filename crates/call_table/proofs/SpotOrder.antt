@@ -5,17 +5,16 @@ use Rattle.std.specs.declared.cmp.Ordering.{Ordering}
 use Rattle.std.specs.declared.cmp.Ordering.TheVariants.{Less, Equal, Greater}
 use Rattle.std.proofs.lemmas.Cmp.{ranked}
 use Rattle.std.proofs.lemmas.List.Elements.{All-map}
-use Rattle.import_rules.specs.Names.{pred_cmp}
 use Rattle.import_rules.specs.Program.{Seen}
 use Rattle.import_rules.proofs.Lists.{all_pairs_map}
 use Rattle.file_library.specs.Spots.{StandsInText}
-use Rattle.call_edges.specs.CallPlaces.{CallAt, AreCallsOf, call_cmp}
+use Rattle.call_edges.specs.CallPlaces.{CallAt, AreCallsOf, call_cmp, callee_cmp}
 use Rattle.call_table.specs.declared.clauses.ClauseAt.{ClauseAt}
 use Rattle.call_table.specs.Clauses.{AreClausesOf}
 use Rattle.file_library.specs.Spots.{IsUpto, AreSpots}
 use Rattle.call_table.specs.Table.{clause_spot, call_spot}
 
-second_upto : (o : Ordering) (m n : ℕ) (rest : Ordering) → o ≡ nat_cmp m n → ordering_then o rest ≡ Less → m ≤ n
+pub second_upto : (o : Ordering) (m n : ℕ) (rest : Ordering) → o ≡ nat_cmp m n → ordering_then o rest ≡ Less → m ≤ n
 second_upto Less m n rest is less = let lt : m < n = ranked m n Less is in omega (arith, lt)
 second_upto Equal m n rest is less = let same : m ≡ n = ranked m n Equal is in omega (arith, same)
 second_upto Greater m n rest is less = let both : Greater ≡ Less = less in absurd (cc)
@@ -32,7 +31,7 @@ clauses_are_spots seen nodes clauses are stand = record {
       (λ i j d before lt.
       let a = get_or clauses i d in
       let b = get_or clauses j d in
-      upto_by (nat_cmp a.file b.file) a.file b.file a.offset b.offset (nat_cmp a.node b.node) refl (are.ordered i j d before lt));
+      upto_by (nat_cmp a.file b.file) a.file b.file a.offset b.offset (ordering_then (nat_cmp a.end b.end) (nat_cmp a.node b.node)) refl (are.ordered i j d before lt));
   stand = All-map (λ (s : ℕ × ℕ). StandsInText seen.loaded.texts s.0 s.1) clause_spot clauses stand;
 }
 
@@ -43,7 +42,7 @@ calls_are_spots seen nodes calls are stand = record {
       (λ i j d before lt.
       let a = get_or calls i d in
       let b = get_or calls j d in
-      upto_by (nat_cmp a.file b.file) a.file b.file a.offset b.offset (ordering_then (nat_cmp a.caller b.caller) (pred_cmp a.callee b.callee)) refl (are.ordered i j d before lt));
+      upto_by (nat_cmp a.file b.file) a.file b.file a.offset b.offset (ordering_then (nat_cmp a.caller b.caller) (callee_cmp a b)) refl (are.ordered i j d before lt));
   stand = All-map (λ (s : ℕ × ℕ). StandsInText seen.loaded.texts s.0 s.1) call_spot calls stand;
 }
 
@@ -55,6 +54,6 @@ ordered_are_spots seen calls ordered stand = record {
       (λ i j d before lt.
       let a = get_or calls i d in
       let b = get_or calls j d in
-      upto_by (nat_cmp a.file b.file) a.file b.file a.offset b.offset (ordering_then (nat_cmp a.caller b.caller) (pred_cmp a.callee b.callee)) refl (ordered i j d before lt));
+      upto_by (nat_cmp a.file b.file) a.file b.file a.offset b.offset (ordering_then (nat_cmp a.caller b.caller) (callee_cmp a b)) refl (ordered i j d before lt));
   stand = All-map (λ (s : ℕ × ℕ). StandsInText seen.loaded.texts s.0 s.1) call_spot calls stand;
 }

@@ -2,9 +2,9 @@
 
 ghost use Rattle.std.specs.Prelude.{◌≡◌, ◌<◌, ◌++◌, All, length, map, IfOk, OnOk};
 ghost use Rattle.std.specs.List.{flat_map};
-ghost use Rattle.file_library.specs.Spots.{StandsInText};
+ghost use Rattle.file_library.specs.Spots.{AreSpots};
 ghost use Rattle.call_table.specs.Clauses.{AreClausesOf, clause_at, clauses_in};
-ghost use Rattle.call_table.specs.declared.clauses.ClauseAt.{ClauseAt as Clauses};
+ghost use Rattle.call_table.specs.Table.{clause_end, clause_spot};
 ghost use Rattle.clause_text.specs.Clauses.{clause_trees};
 
 use clause_text::Clause;
@@ -12,17 +12,18 @@ use import_rules::Program;
 use prolog_names::Names;
 use std::alloc::{AllocError, Global};
 
-/// Where a clause starts, in whatever brackets it is: the index of its file among the files, and
-/// the byte offset there; and the number of its predicate. Clauses are ordered by these fields in
-/// this order.
+/// Where a clause starts and ends, in whatever brackets it is: the index of its file among the
+/// files, and the byte offsets there; and the number of its predicate. The end is directly after its
+/// last character. Clauses are ordered by these fields in this order.
 #[derive(Clone, Copy, Debug, PartialEq, Eq, PartialOrd, Ord)]
 pub struct ClauseAt {
     pub file: u32,
     pub offset: u32,
+    pub end: u32,
     pub node: u32,
 }
 
-/// Adds where these clauses start, whose names are numbers in `names`.
+/// Adds where these clauses stand, whose names are numbers in `names`.
 fn push_clauses(
     file: u32,
     node: u32,
@@ -33,16 +34,18 @@ fn push_clauses(
     ensures { OnOk result (out.new.items ≡ out.old.items ++ map (clause_at file node) (clause_trees names.now clauses.now)) }
 {
     for clause in clauses {
+        let span = clause.span(names);
         out.push(ClauseAt {
             file,
-            offset: clause.start(names),
+            offset: span.from,
+            end: span.to,
             node,
         })?;
     }
     Ok(())
 }
 
-/// Adds where the clauses of a predicate start.
+/// Adds where the clauses of a predicate stand.
 fn push_clauses_of(program: &Program, node: u32, out: &mut Vec<ClauseAt>) -> Result<(), AllocError>
     requires { node < length program.now.predicates }
     ensures { OnOk result (out.new.items ≡ out.old.items ++ clauses_in program.now node) }
@@ -57,7 +60,7 @@ fn push_clauses_of(program: &Program, node: u32, out: &mut Vec<ClauseAt>) -> Res
     Ok(())
 }
 
-/// Where the clauses of these predicates start, in the order of the predicates.
+/// Where the clauses of these predicates stand, in the order of the predicates.
 fn clauses_from(
     alloc: Global,
     program: &Program,
@@ -73,7 +76,8 @@ fn clauses_from(
     Ok(out)
 }
 
-/// All clauses of these predicates, in order of file and offset, each once.
+/// All clauses of these predicates, in order of file and offset, each once. Their ends are in this
+/// order too, since clauses of a file don't overlap.
 pub fn clauses_of(
     alloc: Global,
     program: &Program,
@@ -81,9 +85,11 @@ pub fn clauses_of(
 ) -> Result<Vec<ClauseAt>, AllocError>
     requires { All (λ p. p < length program.now.predicates) nodes.now }
     ensures clauses { IfOk result (λ clauses. AreClausesOf program.now nodes.now clauses.items) }
-    ensures stand { IfOk result (λ clauses. All (λ (c : Clauses). StandsInText program.now.loaded.texts c.file c.offset) clauses.items) }
+    ensures starts { IfOk result (λ clauses. AreSpots program.now.loaded.texts (map clause_spot clauses.items)) }
+    ensures ends { IfOk result (λ clauses. AreSpots program.now.loaded.texts (map clause_end clauses.items)) }
 {
     program.is_known();
+    program.clauses_apart();
     let mut clauses = clauses_from(alloc, program, nodes)?;
     clauses.sort_unstable();
     clauses.dedup();

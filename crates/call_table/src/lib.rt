@@ -2,16 +2,19 @@
 //! positions, and the group of each predicate.
 //!
 //! `call_table` lists all clauses and all calls of given predicates, each once and sorted by file
-//! and offset, with lines and columns. It also has the group of each predicate of the program, if
-//! it is in one of the given groups. `make_marks` has what modules export, and why reachability begins
-//! at predicates. For example, let `a.pl` have the line `p :- q, r.` The clause
-//! of `user:p/0` starts at line 1, column 1, and the calls of `q/0` and `r/0` at columns 6 and 9.
+//! and offset, with lines and columns. A clause has those of its start and of its end. It also has
+//! the group of each predicate of the program, if it is in one of the given groups. `make_marks` has
+//! what modules export, why reachability begins at predicates, and which of them directives declare
+//! `dynamic` or `multifile`. For example, let `a.pl` have the line `p :- q, r.` The clause of
+//! `user:p/0` goes from line 1, column 1, to column 10 of this line, and the calls of `q/0` and `r/0`
+//! start at columns 6 and 9.
 //!
 //! The layer above decides how the table is written.
 #![tactic(auto)]
 
 mod clauses;
 mod directives;
+mod extents;
 mod marks;
 mod memberships;
 mod reached;
@@ -19,6 +22,7 @@ mod table;
 
 pub use clauses::{ClauseAt, clauses_of};
 pub use directives::placed_directives;
+pub use extents::Extent;
 pub use marks::{Marks, NodeMarks, make_marks};
 pub use memberships::groups_of;
 pub use reached::{Reached, groups_from};

@@ -1,13 +1,16 @@
-//! What is marked at predicates: which of them modules export, and why reachability begins there.
+//! What is marked at predicates: which of them modules export, why reachability begins there, and
+//! what directives declare of them.
 
 ghost use Rattle.std.specs.Prelude.{◌≡◌, ◌<◌, All, Contains, IfOk, length};
+ghost use Rattle.call_edges.specs.Properties.{IsDeclared};
 ghost use Rattle.call_edges.specs.RootReasons.{IsExported, IsRootByDirective, IsRootByExport, IsRootByFile};
 ghost use Rattle.call_table.specs.Marks.{AreEach, AreMarked, AreMarks, marks_at, see_marks};
 ghost use Rattle.call_table.specs.declared.marks.Marks.{Marks as MarksHere};
 
-use call_edges::{exported_of, roots_by_directive, roots_by_export, roots_by_file};
+use call_edges::{declared_of, exported_of, roots_by_directive, roots_by_export, roots_by_file};
 use graph_law::stamp;
 use import_rules::Program;
+use module_table::Property;
 use std::alloc::{AllocError, Global};
 
 /// What is marked at each predicate of a program, by its number.
@@ -25,6 +28,10 @@ pub struct Marks {
     pub by_directive: Vec<bool>,
     /// What a root file defines that is no module file.
     pub by_file: Vec<bool>,
+    /// What directives declare `dynamic`.
+    pub dynamic: Vec<bool>,
+    /// What directives declare `multifile`.
+    pub multifile: Vec<bool>,
 }
 
 /// What is marked at one predicate.
@@ -36,6 +43,8 @@ pub struct NodeMarks {
     pub by_export: bool,
     pub by_directive: bool,
     pub by_file: bool,
+    pub dynamic: bool,
+    pub multifile: bool,
 }
 
 impl Marks {
@@ -53,6 +62,8 @@ impl Marks {
             by_export: self.by_export[at],
             by_directive: self.by_directive[at],
             by_file: self.by_file[at],
+            dynamic: self.dynamic[at],
+            multifile: self.multifile[at],
         }
     }
 }
@@ -103,8 +114,21 @@ fn file_marks(alloc: Global, program: &Program) -> Result<Vec<bool>, AllocError>
     Ok(marks)
 }
 
+/// For each predicate whether a directive declares the property of it.
+fn declared_marks(
+    alloc: Global,
+    program: &Program,
+    property: Property,
+) -> Result<Vec<bool>, AllocError>
+    ensures { IfOk result (λ marks. AreMarks (length program.now.predicates) (IsDeclared program.now property) marks.items) }
+{
+    let nodes = declared_of(alloc, program, property)?;
+    let marks = marks_of(alloc, program.count(), &nodes)?;
+    Ok(marks)
+}
+
 /// What is marked at each predicate of a program, if reachability begins at these roots. `listed`
-/// says whether a list names them. Takes five bytes for each predicate.
+/// says whether a list names them. Takes seven bytes for each predicate.
 pub fn make_marks(
     alloc: Global,
     program: &Program,
@@ -119,6 +143,8 @@ pub fn make_marks(
     let by_export = export_marks(alloc, program)?;
     let by_directive = directive_marks(alloc, program)?;
     let by_file = file_marks(alloc, program)?;
+    let dynamic = declared_marks(alloc, program, Property::Dynamic)?;
+    let multifile = declared_marks(alloc, program, Property::Multifile)?;
     Ok(Marks {
         listed,
         roots: named,
@@ -126,5 +152,7 @@ pub fn make_marks(
         by_export,
         by_directive,
         by_file,
+        dynamic,
+        multifile,
     })
 }

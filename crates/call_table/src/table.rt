@@ -1,10 +1,11 @@
 //! The table of a program's calls.
 
 ghost use Rattle.std.specs.Prelude.{◌≡◌, ◌<◌, All, IfOk, length, map};
-ghost use Rattle.call_table.specs.Table.{ArePlacedCalls, ArePlacedClauses, IsTable, clause_spot, kept_spot};
+ghost use Rattle.call_table.specs.Table.{ArePlacedCalls, ArePlacedClauses, IsTable, kept_spot};
 ghost use Rattle.graph_law.specs.Graph.{lists_of};
 
 use crate::clauses::{ClauseAt, clauses_of};
+use crate::extents::{Extent, extents_of};
 use crate::memberships::groups_of;
 use call_edges::{PlacedCall, PlacedCallLists, calls_of, in_file_order};
 use import_rules::Program;
@@ -19,8 +20,8 @@ use std::thread::Threads;
 pub struct CallTable<'a> {
     /// In order of file and offset.
     pub clauses: Vec<ClauseAt>,
-    /// For each clause the line and the column.
-    pub clause_places: Vec<Place>,
+    /// For each clause the lines and columns at which it starts and ends.
+    pub clause_extents: Vec<Extent>,
     /// In order of file and offset.
     pub calls: Vec<PlacedCall<'a>>,
     /// For each call the line and the column at which its goal starts.
@@ -28,15 +29,6 @@ pub struct CallTable<'a> {
     /// For each predicate of the program one more than the index of its group, or 0 if it is in
     /// none.
     pub groups: Vec<usize>,
-}
-
-fn clause_spots(alloc: Global, clauses: &[ClauseAt]) -> Result<Vec<(u32, u32)>, AllocError>
-    ensures { IfOk result (λ spots. spots.items ≡ map clause_spot clauses.now) }
-{
-    clauses
-        .iter()
-        .map(|clause| (clause.file, clause.offset))
-        .collect(alloc)
 }
 
 /// Where the goals of these calls start: the index of the file, and the offset.
@@ -52,19 +44,18 @@ pub(crate) fn call_spots(
         .collect(alloc)
 }
 
-/// The clauses of these predicates, and the line and the column of each.
-fn clauses_with_places(
+/// The clauses of these predicates, and the lines and columns of each.
+fn clauses_with_extents(
     alloc: Global,
     program: &Program,
     nodes: &[u32],
-) -> Result<(Vec<ClauseAt>, Vec<Place>), AllocError>
+) -> Result<(Vec<ClauseAt>, Vec<Extent>), AllocError>
     requires { All (λ p. p < length program.now.predicates) nodes.now }
     ensures { IfOk result (λ found. ArePlacedClauses program.now nodes.now found.0.items found.1.items) }
 {
     let clauses = clauses_of(alloc, program, nodes)?;
-    let spots = clause_spots(alloc, &clauses)?;
-    let places = program.places_of_spots(alloc, &spots)?;
-    Ok((clauses, places))
+    let extents = extents_of(alloc, program, &clauses)?;
+    Ok((clauses, extents))
 }
 
 /// The calls of these predicates, and the line and the column of each.
@@ -90,31 +81,31 @@ fn clauses_beside_calls<'a, R: Threads + Sync>(
     alloc: Global,
     lists: &PlacedCallLists<'a>,
     nodes: &[u32],
-) -> Result<(Vec<ClauseAt>, Vec<Place>, Vec<PlacedCall<'a>>, Vec<Place>), AllocError>
+) -> Result<(Vec<ClauseAt>, Vec<Extent>, Vec<PlacedCall<'a>>, Vec<Place>), AllocError>
     requires below { All (λ p. p < length lists.now.predicates) nodes.now }
     ensures clauses { IfOk result (λ found. ArePlacedClauses lists.now nodes.now found.0.items found.1.items) }
     ensures calls { IfOk result (λ found. ArePlacedCalls lists.now nodes.now found.2.items found.3.items) }
 {
     let (clauses, calls) = thread::join_mut(
         rt,
-        &mut || -> Result<(Vec<ClauseAt>, Vec<Place>), AllocError>
+        &mut || -> Result<(Vec<ClauseAt>, Vec<Extent>), AllocError>
             requires { All (λ p. p < length lists.now.predicates) nodes.now }
             ensures { IfOk result (λ found. ArePlacedClauses lists.entry.now nodes.entry.now found.0.items found.1.items) }
-        { clauses_with_places(alloc, lists.program(), nodes) },
+        { clauses_with_extents(alloc, lists.program(), nodes) },
         &mut || -> Result<(Vec<PlacedCall<'_>>, Vec<Place>), AllocError>
             requires { All (λ p. p < length lists.now.predicates) nodes.now }
             ensures { IfOk result (λ found. ArePlacedCalls lists.entry.now nodes.entry.now found.0.items found.1.items) }
         { calls_with_places(alloc, lists, nodes) },
     );
-    let (clauses, clause_places) = match clauses {
+    let (clauses, clause_extents) = match clauses {
         Ok(found) => found,
-        Err(_) => clauses_with_places(alloc, lists.program(), nodes)?,
+        Err(_) => clauses_with_extents(alloc, lists.program(), nodes)?,
     };
     let (calls, call_places) = match calls {
         Ok(found) => found,
         Err(_) => calls_with_places(alloc, lists, nodes)?,
     };
-    Ok((clauses, clause_places, calls, call_places))
+    Ok((clauses, clause_extents, calls, call_places))
 }
 
 /// The table of these predicates, with these groups of the program's predicates.
@@ -135,13 +126,13 @@ pub fn call_table<'a, R: Threads + Sync>(
 {
     let program = lists.program();
     let order = in_file_order(rt, alloc, program, nodes)?;
-    let (clauses, clause_places, calls, call_places) = clauses_beside_calls(
+    let (clauses, clause_extents, calls, call_places) = clauses_beside_calls(
         rt, alloc, lists, &order,
     )?;
     let groups = groups_of(alloc, program.count(), groups)?;
     Ok(CallTable {
         clauses,
-        clause_places,
+        clause_extents,
         calls,
         call_places,
         groups,

@@ -54,6 +54,8 @@ each_marked listed seen roots marks are = record {
   by_export = are.by_export_are.each;
   by_directive = are.by_directive_are.each;
   by_file = are.by_file_are.each;
+  dynamic = are.dynamic_are.each;
+  multifile = are.multifile_are.each;
 }
 
 pub each_as : (count : ℕ) (marks : ProgramMarks) → AreEach count marks → AreEach (length marks.roots) marks

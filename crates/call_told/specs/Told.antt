@@ -77,7 +77,7 @@ told_lines seen groups levels places marks nodes =
 
 -- the lines of the clauses
 abbrev pub clause_lines : Seen → CallTable → List ℕ
-clause_lines seen table = flat_map (λ pair. clause_line seen pair.0 pair.1) (zip table.clauses.items table.clause_places.items)
+clause_lines seen table = flat_map (λ pair. clause_line seen pair.0 pair.1) (zip table.clauses.items table.clause_extents.items)
 
 -- the lines of the calls, or of those alone whose names mean no predicate
 abbrev pub call_lines : Bool → Seen → CallTable → List ℕ

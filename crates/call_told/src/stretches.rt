@@ -7,7 +7,7 @@ ghost use Rattle.call_told.specs.Stretches.{AreStretches, call_stretch, clause_s
 ghost use Rattle.call_told.specs.Told.{call_lines, clause_lines, joined};
 
 use call_edges::PlacedCall;
-use call_table::{CallTable, ClauseAt};
+use call_table::{CallTable, ClauseAt, Extent};
 use call_writer::{push_call_lines, push_clause_lines};
 use import_rules::Program;
 use prolog_tokens::Place;
@@ -28,13 +28,14 @@ const BY_ONE: usize = usize::MAX;
 const CALL_ROOM: usize = 160;
 
 /// The same for each line of a clause.
-const CLAUSE_ROOM: usize = 104;
+const CLAUSE_ROOM: usize = 136;
 
-/// Adjacent rows of a table, each with its line and column.
+/// Adjacent rows of a table, each with its line and column, or with those at which it starts and
+/// ends.
 #[derive(Clone, Copy)]
-pub struct Stretch<'a, T> {
+pub struct Stretch<'a, T, P> {
     pub rows: &'a [T],
-    pub places: &'a [Place],
+    pub places: &'a [P],
 }
 
 /// How many of the remaining rows the next stretch has.
@@ -50,11 +51,11 @@ fn stretch_size(left: usize) -> usize
 }
 
 /// All rows, cut into stretches.
-fn stretches<'a, T>(
+fn stretches<'a, T, P>(
     alloc: Global,
     rows: &'a [T],
-    places: &'a [Place],
-) -> Result<Vec<Stretch<'a, T>>, AllocError>
+    places: &'a [P],
+) -> Result<Vec<Stretch<'a, T, P>>, AllocError>
     requires { length rows.now ≡ length places.now }
     ensures { IfOk result (λ cut. AreStretches rows.now places.now cut.items) }
 {
@@ -79,7 +80,7 @@ fn stretches<'a, T>(
 fn call_text(
     alloc: Global,
     program: &Program,
-    stretch: &Stretch<'_, PlacedCall<'_>>,
+    stretch: &Stretch<'_, PlacedCall<'_>, Place>,
     undefined: bool,
 ) -> Result<String, AllocError>
     ensures { IfOk result (λ text. string_bytes text ≡ call_stretch undefined program.now stretch.now) }
@@ -101,7 +102,7 @@ fn call_text(
 fn clause_text(
     alloc: Global,
     program: &Program,
-    stretch: &Stretch<'_, ClauseAt>,
+    stretch: &Stretch<'_, ClauseAt, Extent>,
 ) -> Result<String, AllocError>
     ensures { IfOk result (λ text. string_bytes text ≡ clause_stretch program.now stretch.now) }
 {
@@ -116,7 +117,7 @@ fn call_pieces<R: Threads + Sync>(
     rt: &R,
     alloc: Global,
     program: &Program,
-    stretches: &[Stretch<'_, PlacedCall<'_>>],
+    stretches: &[Stretch<'_, PlacedCall<'_>, Place>],
     undefined: bool,
     fewest: usize,
 ) -> Result<Vec<String>, AllocError>
@@ -126,7 +127,7 @@ fn call_pieces<R: Threads + Sync>(
         .par_iter()
         .with_min_len(fewest)
         .map(
-            |stretch: &Stretch<'_, PlacedCall<'_>>| -> Result<String, AllocError>
+            |stretch: &Stretch<'_, PlacedCall<'_>, Place>| -> Result<String, AllocError>
                 ensures { IfOk result (λ text. string_bytes text ≡ call_stretch undefined program.entry.now stretch.now) }
             { call_text(alloc, program, stretch, undefined) },
         )
@@ -139,7 +140,7 @@ fn each_call_text<R: Threads + Sync>(
     rt: &R,
     alloc: Global,
     program: &Program,
-    stretches: &[Stretch<'_, PlacedCall<'_>>],
+    stretches: &[Stretch<'_, PlacedCall<'_>, Place>],
     undefined: bool,
 ) -> Result<Vec<String>, AllocError>
     ensures { IfOk result (λ texts. joined texts.items ≡ flat_map (call_stretch undefined program.now) stretches.now) }
@@ -155,7 +156,7 @@ fn clause_pieces<R: Threads + Sync>(
     rt: &R,
     alloc: Global,
     program: &Program,
-    stretches: &[Stretch<'_, ClauseAt>],
+    stretches: &[Stretch<'_, ClauseAt, Extent>],
     fewest: usize,
 ) -> Result<Vec<String>, AllocError>
     ensures { IfOk result (λ texts. joined texts.items ≡ flat_map (clause_stretch program.now) stretches.now) }
@@ -164,7 +165,7 @@ fn clause_pieces<R: Threads + Sync>(
         .par_iter()
         .with_min_len(fewest)
         .map(
-            |stretch: &Stretch<'_, ClauseAt>| -> Result<String, AllocError>
+            |stretch: &Stretch<'_, ClauseAt, Extent>| -> Result<String, AllocError>
                 ensures { IfOk result (λ text. string_bytes text ≡ clause_stretch program.entry.now stretch.now) }
             { clause_text(alloc, program, stretch) },
         )
@@ -177,7 +178,7 @@ fn each_clause_text<R: Threads + Sync>(
     rt: &R,
     alloc: Global,
     program: &Program,
-    stretches: &[Stretch<'_, ClauseAt>],
+    stretches: &[Stretch<'_, ClauseAt, Extent>],
 ) -> Result<Vec<String>, AllocError>
     ensures { IfOk result (λ texts. joined texts.items ≡ flat_map (clause_stretch program.now) stretches.now) }
 {
@@ -211,10 +212,10 @@ pub(crate) fn clause_texts<R: Threads + Sync>(
     program: &Program,
     table: &CallTable<'_>,
 ) -> Result<Vec<String>, AllocError>
-    requires even { length table.now.clauses.items ≡ length table.now.clause_places.items }
+    requires even { length table.now.clauses.items ≡ length table.now.clause_extents.items }
     ensures { IfOk result (λ texts. joined texts.items ≡ clause_lines program.now table.now) }
 {
-    let cut = stretches(alloc, &table.clauses, &table.clause_places)?;
+    let cut = stretches(alloc, &table.clauses, &table.clause_extents)?;
     let texts = each_clause_text(rt, alloc, program, &cut)?;
     Ok(texts)
 }

@@ -12,6 +12,7 @@ use Rattle.import_rules.specs.Program.{Seen, meta_in}
 use Rattle.module_table.specs.declared.goal_arg.GoalArg.{GoalArg}
 use Rattle.call_edges.specs.CallPlaces.{CallAt}
 use Rattle.call_table.specs.declared.clauses.ClauseAt.{ClauseAt}
+use Rattle.call_table.specs.declared.extents.Extent.{Extent}
 use Rattle.call_table.specs.declared.marks.NodeMarks.{NodeMarks}
 use Rattle.call_writer.specs.Json.{json_string, truth}
 use Rattle.call_writer.specs.Marks.{mark_fields}
@@ -51,11 +52,16 @@ number_or_null None = codes "null"
 abbrev pub call_head : ℕ → Option ℕ → List ℕ
 call_head caller callee = codes "{\"is\":\"call\",\"caller\":" ++ (decimal caller ++ (codes ",\"callee\":" ++ number_or_null callee))
 
+-- `,"added":0,"negated":false}`
+abbrev pub call_end : ℕ → Bool → List ℕ
+call_end added negated = codes ",\"added\":" ++ (decimal added ++ (codes ",\"negated\":" ++ (truth negated ++ codes "}\n")))
+
 -- the line of a call, with the predicate that its name means, as
--- `{"is":"call","caller":0,"callee":1,"module":"user","name":"q","arity":0,"file":"f.pl","line":1,"column":6}`
+-- `{"is":"call","caller":0,"callee":1,"module":"user","name":"q","arity":0,"file":"f.pl","line":1,"column":6,"added":0,"negated":false}`
 abbrev pub call_line : Seen → CallAt → Place → List ℕ
 call_line seen c place =
-    call_head c.caller c.means ++ (codes "," ++ (name_fields c.callee ++ (codes "," ++ (spot_fields seen c.file place ++ codes "}\n"))))
+    call_head c.caller c.means
+    ++ (codes "," ++ (name_fields c.callee ++ (codes "," ++ (spot_fields seen c.file place ++ call_end c.added c.negated))))
 
 -- a call has a line, unless only those are told whose name means no predicate, and it means one
 abbrev pub call_line_if : Bool → Seen → CallAt → Place → List ℕ
@@ -67,20 +73,26 @@ abbrev pub directive_head : Option ℕ → List ℕ
 directive_head callee = codes "{\"is\":\"call\",\"caller\":null,\"callee\":" ++ number_or_null callee
 
 -- the line of a call of a directive, which has no caller, as
--- `{"is":"call","caller":null,"callee":1,"module":"user","name":"q","arity":0,"file":"f.pl","line":1,"column":4,"directive":true}`
+-- `{"is":"call","caller":null,"callee":1,"module":"user","name":"q","arity":0,"file":"f.pl","line":1,"column":4,"directive":true,"added":0,"negated":false}`
 abbrev pub directive_line : Seen → CallAt → Place → List ℕ
 directive_line seen c place =
     directive_head c.means
-    ++ (codes "," ++ (name_fields c.callee ++ (codes "," ++ (spot_fields seen c.file place ++ codes ",\"directive\":true}\n"))))
+    ++ (codes ","
+    ++ (name_fields c.callee ++ (codes "," ++ (spot_fields seen c.file place ++ (codes ",\"directive\":true" ++ call_end c.added c.negated)))))
 
 -- such a call has a line where another one has
 abbrev pub directive_line_if : Bool → Seen → CallAt → Place → List ℕ
 directive_line_if undefined seen c place = if undefined && is_some c.means then [] else directive_line seen c place
 
--- `{"is":"clause","predicate":0,"file":"f.pl","line":1,"column":1}`
-abbrev pub clause_line : Seen → ClauseAt → Place → List ℕ
-clause_line seen c place =
-    codes "{\"is\":\"clause\",\"predicate\":" ++ (decimal c.node ++ (codes "," ++ (spot_fields seen c.file place ++ codes "}\n")))
+-- a line and a column directly after what stands before them
+abbrev pub end_fields : Place → List ℕ
+end_fields end = codes "\"end_line\":" ++ (decimal end.line ++ (codes ",\"end_column\":" ++ decimal end.column))
+
+-- `{"is":"clause","predicate":0,"file":"f.pl","line":1,"column":1,"end_line":1,"end_column":7}`
+abbrev pub clause_line : Seen → ClauseAt → Extent → List ℕ
+clause_line seen c extent =
+    codes "{\"is\":\"clause\",\"predicate\":"
+    ++ (decimal c.node ++ (codes "," ++ (spot_fields seen c.file extent.start ++ (codes "," ++ (end_fields extent.end ++ codes "}\n")))))
 
 -- the least number of a group, the group's height, and whether it is recursive
 abbrev pub level_fields : ℕ → Level → List ℕ
@@ -97,7 +109,7 @@ group_fields groups levels place =
 abbrev pub predicate_head : ℕ → PredName → List ℕ
 predicate_head node name = codes "{\"is\":\"predicate\",\"id\":" ++ (decimal node ++ (codes "," ++ name_fields name))
 
--- `{"is":"predicate","id":0,"module":"user","name":"p","arity":0,"group":0,"height":1,"recursive":true,"exported":false,"meta":null,"root":["file"]}`
+-- `{"is":"predicate","id":0,"module":"user","name":"p","arity":0,"group":0,"height":1,"recursive":true,"exported":false,"meta":null,"root":["file"],"dynamic":false,"multifile":false}`
 abbrev pub predicate_line : List (List ℕ) → List Level → ℕ → PredName → ℕ → NodeMarks → List GoalArg → List ℕ
 predicate_line groups levels node name place marks args =
     predicate_head node name ++ (codes "," ++ (group_fields groups levels place ++ (mark_fields marks args ++ codes "}\n")))

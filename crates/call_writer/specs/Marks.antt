@@ -41,8 +41,15 @@ abbrev pub words_text : List (List ℕ) → List ℕ
 words_text [] = []
 words_text (word ∷ words) = word ++ flat_map next_word words
 
--- `,"exported":true,"meta":[0,null],"root":["export"]`
+-- `,"dynamic":true,"multifile":false`
+abbrev pub declared_fields : Bool → Bool → List ℕ
+declared_fields dynamic multifile = codes ",\"dynamic\":" ++ (truth dynamic ++ (codes ",\"multifile\":" ++ truth multifile))
+
+-- `,"exported":true,"meta":[0,null],"root":["export"],"dynamic":false,"multifile":false`
 abbrev pub mark_fields : NodeMarks → List GoalArg → List ℕ
 mark_fields marks args =
     codes ",\"exported\":"
-    ++ (truth marks.exported ++ (codes ",\"meta\":" ++ (goal_args args ++ (codes ",\"root\":[" ++ (words_text (root_words marks) ++ codes "]")))))
+    ++ (truth marks.exported
+    ++ (codes ",\"meta\":"
+    ++ (goal_args args
+    ++ (codes ",\"root\":[" ++ (words_text (root_words marks) ++ (codes "]" ++ declared_fields marks.dynamic marks.multifile))))))

@@ -6,6 +6,7 @@ ghost use Rattle.std.specs.String.{string_bytes};
 ghost use Rattle.call_edges.specs.PlacedSeen.{see_call, see_calls};
 ghost use Rattle.call_writer.specs.Lines.{directive_head, directive_line, directive_line_if};
 
+use crate::call_end::push_call_end;
 use crate::last::{Last, LastFile, LastModule};
 use crate::lines::{is_hidden, push_callee, push_name_after, push_spot};
 use call_edges::PlacedCall;
@@ -42,8 +43,8 @@ fn push_directive_line<'a, 'b>(
         named.arity,
     )?;
     push_spot(text, &mut last.file, named.file, place)?;
-    text.push_str(",\"directive\":true}\n")?;
-    Ok(())
+    text.push_str(",\"directive\":true")?;
+    push_call_end(text, named.added, named.negated)
 }
 
 /// Adds the line of a call of a directive. If `undefined` is set, there is none for a call that

@@ -6,18 +6,19 @@ ghost use Rattle.std.specs.List.{flat_map, zip};
 ghost use Rattle.std.specs.String.{string_bytes};
 ghost use Rattle.call_edges.specs.PlacedSeen.{see_call, see_calls};
 ghost use Rattle.call_writer.specs.Json.{truth};
-ghost use Rattle.call_writer.specs.Lines.{call_head, call_line, call_line_if, clause_line, group_fields, level_fields};
+ghost use Rattle.call_writer.specs.Lines.{call_head, call_line, call_line_if, clause_line, end_fields, group_fields, level_fields};
 ghost use Rattle.call_writer.specs.Lines.{name_fields, number_or_null, predicate_head, predicate_line_of, spot_fields};
 ghost use Rattle.graph_law.specs.Classes.{group_at, least_member};
 ghost use Rattle.graph_law.specs.Graph.{lists_of};
 ghost use Rattle.import_rules.specs.Names.{pred_name};
 ghost use Rattle.import_rules.specs.Parts.{see_name};
 
+use crate::call_end::push_call_end;
 use crate::json::{push_inner, push_number};
 use crate::last::{Last, LastFile, LastModule};
 use crate::marks::push_marks;
 use call_edges::PlacedCall;
-use call_table::{ClauseAt, NodeMarks};
+use call_table::{ClauseAt, Extent, NodeMarks};
 use group_release::Level;
 use import_rules::{NameView, Program};
 use prolog_tokens::Place;
@@ -151,8 +152,7 @@ fn push_call_line<'a, 'b>(
         named.arity,
     )?;
     push_spot(text, &mut last.file, named.file, place)?;
-    text.push_str("}\n")?;
-    Ok(())
+    push_call_end(text, named.added, named.negated)
 }
 
 /// Adds the line of a call. If `undefined` is set, there is none for a call that means a predicate.
@@ -196,19 +196,31 @@ pub fn push_call_lines(
     Ok(())
 }
 
+/// Adds a comma, and the line and the column at which a clause ends.
+fn push_end(text: &mut String, end: Place) -> Result<(), AllocError>
+    ensures { OnOk result (string_bytes text.new ≡ string_bytes text.old ++ (codes "," ++ end_fields end)) }
+{
+    text.push_str(",\"end_line\":")?;
+    push_number(text, u64::from(end.line))?;
+    text.push_str(",\"end_column\":")?;
+    push_number(text, u64::from(end.column))?;
+    Ok(())
+}
+
 /// Adds the line of a clause.
 fn push_clause(
     text: &mut String,
     last: &mut LastFile<'_>,
     clause: ClauseAt,
-    place: Place,
+    extent: Extent,
 ) -> Result<(), AllocError>
-    ensures text { OnOk result (string_bytes text.new ≡ string_bytes text.old ++ clause_line last.old.program.now clause place) }
+    ensures text { OnOk result (string_bytes text.new ≡ string_bytes text.old ++ clause_line last.old.program.now clause extent) }
     ensures program { OnOk result (last.new.program.now ≡ last.old.program.now) }
 {
     text.push_str("{\"is\":\"clause\",\"predicate\":")?;
     push_number(text, u64::from(clause.node))?;
-    push_spot(text, last, clause.file, place)?;
+    push_spot(text, last, clause.file, extent.start)?;
+    push_end(text, extent.end)?;
     text.push_str("}\n")?;
     Ok(())
 }
@@ -219,14 +231,14 @@ pub fn push_clause_lines(
     text: &mut String,
     program: &Program,
     clauses: &[ClauseAt],
-    places: &[Place],
+    extents: &[Extent],
 ) -> Result<(), AllocError>
     ensures { OnOk result (string_bytes text.new
-        ≡ string_bytes text.old ++ flat_map (λ pair. clause_line program.now pair.0 pair.1) (zip clauses.now places.now)) }
+        ≡ string_bytes text.old ++ flat_map (λ pair. clause_line program.now pair.0 pair.1) (zip clauses.now extents.now)) }
 {
     let mut last = LastFile::none(alloc, program);
-    for (clause, place) in clauses.iter().zip(places) {
-        push_clause(text, &mut last, *clause, *place)?;
+    for (clause, extent) in clauses.iter().zip(extents) {
+        push_clause(text, &mut last, *clause, *extent)?;
     }
     Ok(())
 }

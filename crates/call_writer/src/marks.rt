@@ -4,7 +4,7 @@ ghost use Rattle.std.specs.Prelude.{◌≡◌, ◌++◌, OnOk, codes};
 ghost use Rattle.std.specs.List.{flat_map};
 ghost use Rattle.std.specs.String.{string_bytes};
 ghost use Rattle.call_writer.specs.Json.{truth};
-ghost use Rattle.call_writer.specs.Marks.{goal_arg, goal_args, mark_fields, next_goal_arg, root_words, word_if, words_text};
+ghost use Rattle.call_writer.specs.Marks.{declared_fields, goal_arg, goal_args, mark_fields, next_goal_arg, root_words, word_if, words_text};
 
 use crate::json::push_number;
 use call_table::NodeMarks;
@@ -102,6 +102,19 @@ fn root_text(marks: NodeMarks) -> &'static str
     reasons_text(marks.by_export, marks.by_directive, marks.by_file)
 }
 
+/// What directives declare of a predicate. It stands after why reachability begins there, and ends
+/// the line.
+fn last_fields(dynamic: bool, multifile: bool) -> &'static str
+    ensures { result.now ≡ codes "]" ++ (declared_fields dynamic multifile ++ codes "}\n") }
+{
+    match (dynamic, multifile) {
+        (true, true) => "],\"dynamic\":true,\"multifile\":true}\n",
+        (true, false) => "],\"dynamic\":true,\"multifile\":false}\n",
+        (false, true) => "],\"dynamic\":false,\"multifile\":true}\n",
+        (false, false) => "],\"dynamic\":false,\"multifile\":false}\n",
+    }
+}
+
 /// Adds what is marked at a predicate and how it declares its arguments, and ends the line.
 pub(crate) fn push_marks(
     text: &mut String,
@@ -114,6 +127,6 @@ pub(crate) fn push_marks(
     push_goal_args(text, args)?;
     text.push_str(",\"root\":[")?;
     text.push_str(root_text(marks))?;
-    text.push_str("]}\n")?;
+    text.push_str(last_fields(marks.dynamic, marks.multifile))?;
     Ok(())
 }

@@ -13,7 +13,7 @@
 //! For the file `f.pl` with the line `p(X) :- q(X).` the calls of undefined names are
 //!
 //! ```text
-//! {"is":"call","caller":0,"callee":null,"module":"user","name":"q","arity":1,"file":"f.pl","line":1,"column":9}
+//! {"is":"call","caller":0,"callee":null,"module":"user","name":"q","arity":1,"file":"f.pl","line":1,"column":9,"added":0,"negated":false}
 //! ```
 //!
 //! The answer is written to `out` completely or not at all, unless `out` takes a part of it and

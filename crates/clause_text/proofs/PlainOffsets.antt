@@ -58,12 +58,8 @@ module _ (text : List ℕ) where
       by_test true = all
       by_test false = all
   goals_stand (compound name none form span) all = (compound_stands span.from name none (compound name none form span) all.0 all, tt)
-  goals_stand (compound name (more inner none) form span) all = by_test (bytes_eq name (codes "\\+")) (goals_stand inner all.1.0)
-    where
-      by_test : (test : Bool) → Stand (body_goals inner)
-          → Stand (if test then body_goals inner else compound_goal span.from name (more inner none) (compound name (more inner none) form span) ∷ [])
-      by_test true stand = stand
-      by_test false stand = (compound_stands span.from name (more inner none) (compound name (more inner none) form span) all.0 all, tt)
+  goals_stand (compound name (more inner none) form span) all =
+      (compound_stands span.from name (more inner none) (compound name (more inner none) form span) all.0 all, tt)
   goals_stand (compound name (more left (more right none)) form span) all =
       by_test (is_one_of control_names name) (goals_stand left all.1.0) (goals_stand right all.1.1.0)
     where

@@ -1,6 +1,5 @@
 -- A plain tree weighs no more than its tree.
 use Rattle.std.proofs.Common.{◌≡◌, inl, inr, ℕ, zero, suc, ◌+◌, ◌≤◌, Bool, true, false, ◌&&◌, List, [], ◌∷◌, ◌++◌, Option, Some, None, if◌then◌else◌, codes, refl, subst, arith}
-use Rattle.std.specs.Str.{bytes_eq}
 use Rattle.prolog_terms.specs.declared.term.Span.{Span}
 use Rattle.prolog_terms.specs.Tree.{Tree, Trees, variable, constant, atom, compound, listed, tailed, curly, paren, none, more, count}
 use Rattle.prolog_terms.specs.Weight.{weight, weights}
@@ -45,13 +44,8 @@ goals_weight (atom name span) = by_test (fits span.from 0)
     by_test true = omega arith
     by_test false = omega arith
 goals_weight (compound name none form span) = compound_weight span.from name none (compound name none form span) (omega arith)
-goals_weight (compound name (more inner none) form span) = by_test (bytes_eq name (codes "\\+")) (goals_weight inner)
-  where
-    by_test : (test : Bool) → weight (body_tree (body_goals inner)) ≤ weight inner
-        → weight (body_tree (if test then body_goals inner else compound_goal span.from name (more inner none) (compound name (more inner none) form span) ∷ []))
-        ≤ weight (compound name (more inner none) form span)
-    by_test true light = omega (arith, light)
-    by_test false light = compound_weight span.from name (more inner none) (compound name (more inner none) form span) (omega arith)
+goals_weight (compound name (more inner none) form span) =
+    compound_weight span.from name (more inner none) (compound name (more inner none) form span) (omega arith)
 goals_weight (compound name (more left (more right none)) form span) = by_test (is_one_of control_names name) (goals_weight left) (goals_weight right)
   where
     by_test : (test : Bool) → weight (body_tree (body_goals left)) ≤ weight left → weight (body_tree (body_goals right)) ≤ weight right

@@ -45,6 +45,7 @@ file_of name owner exports loads defined = record {
   loads = loads;
   defined = of_module owner defined;
   metas = [];
+  marks = [];
   goals = [];
 }
 
@@ -58,6 +59,7 @@ of_user name loads defined = record {
   loads = loads;
   defined = of_module (codes "user") defined;
   metas = [];
+  marks = [];
   goals = [];
 }
 

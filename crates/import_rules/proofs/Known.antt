@@ -8,14 +8,15 @@ use Rattle.module_table.specs.Facts.{Facts}
 use Rattle.file_library.specs.SortedOut.{see_loaded}
 use Rattle.import_rules.specs.declared.names.PredName.{PredName}
 use Rattle.import_rules.specs.declared.program_tables.ProgramTables.{ProgramTables}
+use Rattle.import_rules.specs.ClauseEnds.{StandApart, AllStandApart}
 use Rattle.import_rules.specs.Files.{AreNumbered, all_defined}
 use Rattle.import_rules.specs.Names.{is_same}
 use Rattle.import_rules.specs.Parts.{names_at}
 use Rattle.import_rules.specs.Program.{see_program, IsKnown, IsReadFrom}
 use Rattle.import_rules.proofs.Lists.{any_there, any_from}
-use Rattle.import_rules.proofs.Loaded.{few_files, was_read}
+use Rattle.import_rules.proofs.Loaded.{few_files, was_read, were_apart}
 use Rattle.import_rules.proofs.NameOrder.{same_parts, same_itself}
-use Rattle.import_rules.proofs.Props.{read_prop, zip_prop}
+use Rattle.import_rules.proofs.Props.{apart_prop, read_prop, zip_prop}
 use Rattle.import_rules.proofs.Seen.{count_is}
 
 -- names that all stand in a list, by a test and by their places
@@ -48,3 +49,9 @@ known p =
       ordered = ∥∥₁_elim p.was_loaded (hlevel props) (λ was. was.is.ordered);
       read = ∥∥₁_elim p.was_loaded (zip_prop IsReadFrom read_prop loaded.texts loaded.files) (λ was. was_read loaded was);
     }
+
+pub apart : (p : ProgramTables) → AllStandApart (see_program p)
+unfolding see_program
+apart p =
+    let loaded = see_loaded p.loaded in
+    ∥∥₁_elim p.was_loaded (zip_prop StandApart apart_prop loaded.texts loaded.files) (λ was. were_apart loaded was)

@@ -30,6 +30,7 @@ pub mod OneProgram
 pub mod Meant
 pub mod FoundMeans
 pub mod Seen
+pub mod ClauseEnds
 pub mod Loaded
 pub mod Props
 pub mod Known

@@ -23,8 +23,10 @@ use Rattle.file_library.specs.Library.{Files}
 use Rattle.prolog_tokens.specs.declared.limits.TheConstants.{MOST_BYTES}
 use Rattle.file_library.specs.declared.limits.TheConstants.{MOST_FILES}
 use Rattle.file_library.specs.Loaded.{LoadedFiles, NamedText, IsTextOf, size_of, WasLoaded}
+use Rattle.import_rules.specs.ClauseEnds.{StandApart}
 use Rattle.import_rules.specs.Metas.{HasFewMetas}
 use Rattle.import_rules.specs.Program.{IsReadFrom}
+use Rattle.import_rules.proofs.ClauseEnds.{clauses_apart}
 
 -- the plain trees of the clauses of a text weigh no more than it is long
 text_light : (text : List ℕ) (trees : List Tree) → ReadsAs text trees → total_weight (map plain trees) ≤ length text
@@ -69,6 +71,10 @@ each_read P files roots holds (t ∷ texts) (f ∷ all) are small has =
 
 pub was_read : (loaded : LoadedFiles) → WasLoaded loaded → AllZip IsReadFrom loaded.texts loaded.files
 was_read loaded was = each_read IsReadFrom was.files was.roots read_from loaded.texts loaded.files was.is.texts was.is.within.each was.is.facts
+
+pub were_apart : (loaded : LoadedFiles) → WasLoaded loaded → AllZip StandApart loaded.texts loaded.files
+were_apart loaded was =
+    each_read StandApart was.files was.roots (λ text facts has small. clauses_apart text facts has) loaded.texts loaded.files was.is.texts was.is.within.each was.is.facts
 
 pub few_files : (loaded : LoadedFiles) → WasLoaded loaded → length loaded.files ≤ MOST_FILES
 few_files loaded was =

@@ -9,6 +9,7 @@ use Rattle.clause_text.specs.Offsets.{HasOffsets, HaveOffsets}
 use Rattle.module_table.specs.Facts.{Facts}
 use Rattle.module_table.specs.Placed.{ArePlacedIn}
 use Rattle.file_library.specs.Loaded.{NamedText}
+use Rattle.import_rules.specs.ClauseEnds.{StandApart}
 use Rattle.import_rules.specs.Program.{IsReadFrom}
 
 offset_prop : (text : List ℕ) (at : ℕ) → IsProp (IsOffset text at)
@@ -34,6 +35,9 @@ placed_prop text facts = hlevel (props, offset_prop, offsets_prop)
 
 pub read_prop : (text : NamedText) (facts : Facts) → IsProp (IsReadFrom text facts)
 read_prop text facts = hlevel (props, placed_prop)
+
+pub apart_prop : (text : NamedText) (facts : Facts) → IsProp (StandApart text facts)
+apart_prop text facts = hlevel (props, offset_prop)
 
 pub zip_prop : {A B : Type 0} (R : A → B → Type 0) → ((x : A) (y : B) → IsProp (R x y)) → (xs : List A) (ys : List B) → IsProp (AllZip R xs ys)
 zip_prop {A} {B} R one [] [] = Unit-prop

@@ -23,3 +23,4 @@ pub mod Homes
 pub mod Findings
 pub mod KnownFiles
 pub mod PlacedFlaws
+pub mod ClauseEnds

@@ -44,6 +44,7 @@ impl Program {
     ghost use Rattle.import_rules.specs.Homes.{AreFound};
     ghost use Rattle.import_rules.specs.Parts.{see_name};
     ghost use Rattle.import_rules.specs.Program.{places_in, meta_in, meta_meant, found, IsKnown};
+    ghost use Rattle.import_rules.specs.ClauseEnds.{AllStandApart};
 
     /// The program of these tables.
     pub(crate) fn of(tables: ProgramTables) -> Program
@@ -59,6 +60,15 @@ impl Program {
         ensures { IsKnown self.now }
     {
         self.tables.is_known();
+    }
+
+    /// A theorem about each program: no clause of a file ends before it starts, each ends at an
+    /// offset of the text, and no two overlap. The function does nothing, and is called for what it
+    /// ensures.
+    pub fn clauses_apart(&self)
+        ensures { AllStandApart self.now }
+    {
+        self.tables.clauses_apart();
     }
 
     /// How many predicates there are.

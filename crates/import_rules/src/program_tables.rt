@@ -52,12 +52,20 @@ impl ProgramTables {
     ghost use Rattle.import_rules.specs.Names.{pred_name};
     ghost use Rattle.import_rules.specs.Parts.{see_name};
     ghost use Rattle.import_rules.specs.Program.{see_program, places_in, meta_in, meta_meant, found, IsKnown};
+    ghost use Rattle.import_rules.specs.ClauseEnds.{AllStandApart};
 
     /// A theorem about each program: it has at most 1,048,576 predicates and 1,024 files, both in
     /// order. Each file was read from its text. The function does nothing, and is called for what
     /// it ensures.
     pub(crate) fn is_known(&self)
         ensures { IsKnown (see_program self.now) }
+    {}
+
+    /// A theorem about each program: no clause of a file ends before it starts, each ends at an
+    /// offset of the text, and no two overlap. The function does nothing, and is called for what it
+    /// ensures.
+    pub(crate) fn clauses_apart(&self)
+        ensures { AllStandApart (see_program self.now) }
     {}
 
     /// How many predicates there are.

@@ -70,14 +70,12 @@ compound_goal at name args tree =
 abbrev pub atom_goal : ℕ → List ℕ → Tree → PlainGoal
 atom_goal at name tree = if fits at 0 then called (record { at = at; name = name; arity = 0 }) else whole tree
 
--- the goals of a body, in order: those within control constructs and brackets; a variable, a list and curly brackets have none
+-- the goals of a body, in order: those within control constructs of two goals and brackets; a negation is one goal, and a variable, a list and curly brackets
+-- have none
 abbrev pub body_goals : Tree → List PlainGoal
 body_goals (variable span) = []
 body_goals (constant kind minus value span) = whole (constant kind minus value span) ∷ []
 body_goals (atom name span) = atom_goal span.from name (atom name span) ∷ []
-body_goals (compound name (more inner none) form span) =
-    if bytes_eq name (codes "\\+") then body_goals inner
-    else compound_goal span.from name (more inner none) (compound name (more inner none) form span) ∷ []
 body_goals (compound name (more left (more right none)) form span) =
     if is_one_of control_names name then body_goals left ++ body_goals right
     else compound_goal span.from name (more left (more right none)) (compound name (more left (more right none)) form span) ∷ []

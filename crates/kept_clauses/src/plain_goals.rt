@@ -1,13 +1,12 @@
 //! Heads and goals that are known by their names.
 
 ghost use Rattle.std.specs.Prelude.{◌≡◌, ◌≤◌, ℕ, List, Option, not, true, None, Some, codes, option_map, if◌then◌else◌, IfSome};
-ghost use Rattle.std.specs.Str.{bytes_eq};
 ghost use Rattle.prolog_names.specs.Names.{name_at};
 ghost use Rattle.prolog_terms.specs.declared.term.Form.{Form as FormOf};
 ghost use Rattle.prolog_terms.specs.declared.term.Span.{Span as SpanOf};
 ghost use Rattle.prolog_terms.specs.Terms.{tree_of, trees_of, IsOf};
 ghost use Rattle.prolog_terms.specs.Tree.{Tree, compound};
-ghost use Rattle.prolog_terms.specs.Views.{Named, name_and_arity, only_of, pair_of, sides_of};
+ghost use Rattle.prolog_terms.specs.Views.{Named, name_and_arity, pair_of, sides_of};
 ghost use Rattle.kept_clauses.specs.BodyGoals.{AreGoals, AreLighter, HaveNames, IsFitCall, IsFitHead, IsPlainHeadOf, goal_by};
 ghost use Rattle.kept_clauses.specs.Words.{is_reserved};
 ghost use Rattle.kept_clauses.specs.Plain.{all_silent, atom_goal, body_goals, clause_named, compound_goal, control_names, fits, is_one_of, is_plain_name};
@@ -20,8 +19,6 @@ use prolog_terms::{Parts, Term, TermKind, inside, number_and_arity, numbered_bin
 
 /// The numbers of `,` `;` `|` and `->` in each table of names.
 const CONTROLS: [u32; 4] = [1, 20, 2, 21];
-/// The number of `\+`.
-const NEGATION: u32 = 15;
 /// The number of `:-`.
 const NECK: u32 = 17;
 
@@ -83,15 +80,6 @@ fn is_control(names: &Names, number: u32) -> bool
     names_law(names);
     known_law(names);
     CONTROLS.contains(&number)
-}
-
-/// Whether the name of that number is `\+`.
-fn is_negation(names: &Names, number: u32) -> bool
-    ensures { result ≡ bytes_eq (name_at names.now number) (codes "\\+") }
-{
-    names_law(names);
-    known_law(names);
-    NEGATION == number
 }
 
 /// The number of the name of an atom or a compound; 0 for another term.
@@ -158,17 +146,6 @@ fn control_sides<'a>(names: &Names, number: u32, args: &Parts<'a>) -> Option<(Te
     args.pair()
 }
 
-/// What a negation with this name and these arguments negates.
-fn negated<'a>(names: &Names, number: u32, args: &Parts<'a>) -> Option<Term<'a>>
-    ensures inner { option_map tree_of result ≡ (if bytes_eq (name_at names.now number) (codes "\\+") then only_of (trees_of args.now) else None) }
-    ensures within { IfSome result (IsOf args.now.names.now args.now.nodes.now) }
-{
-    if !is_negation(names, number) {
-        return None;
-    }
-    args.only()
-}
-
 /// What a compound is made of as a body.
 fn compound_goals<'a>(names: &Names, at: u32, number: u32, args: &Parts<'a>) -> BodyGoals<'a>
     ensures goals { (form : FormOf) (span : SpanOf) → span.from ≡ at
@@ -179,9 +156,6 @@ fn compound_goals<'a>(names: &Names, at: u32, number: u32, args: &Parts<'a>) -> 
 {
     if let Some((left, right)) = control_sides(names, number, args) {
         return BodyGoals::OfBoth(left, right);
-    }
-    if let Some(inner) = negated(names, number, args) {
-        return BodyGoals::Of(inner);
     }
     let Some(call) = compound_call(names, at, number, args) else {
         return BodyGoals::Whole;

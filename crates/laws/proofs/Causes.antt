@@ -14,12 +14,14 @@ use Rattle.module_table.specs.declared.indicator.Indicator.{Indicator}
 use Rattle.module_table.specs.declared.load.LoadKind.{LoadKind}
 use Rattle.module_table.specs.declared.load.LoadKind.TheVariants.{UseAll, UseSome, Ensure}
 use Rattle.module_table.specs.Metas.{Declaration, takes_of}
-use Rattle.module_table.specs.Said.{Said, Part, Declares, declares, loads, defines, goal, Refusal, refused, in_turn, each_said, nothing, only, takes}
+use Rattle.module_table.specs.Said.{Said, Part, Declares, declares, loads, defines, goal, Refusal, refused, in_turn, each_said, nothing, only, takes, marks}
 use Rattle.module_table.specs.Heads.{is_among, control_names, headless_names, head_named, plain_head, behind_modules, Owned, owned_by, head, grammar_head}
 use Rattle.module_table.specs.Indicators.{indicator, one_indicator, indicators, list_of, listed_indicators}
 use Rattle.module_table.specs.declared.dynamic.Standing.{Standing}
 use Rattle.module_table.specs.declared.dynamic.Standing.TheVariants.{Whole, Joint, Item}
-use Rattle.module_table.specs.Dynamic.{owned, defined_bare, bare_said, is_joint, is_whole, dynamic_at, each_dynamic, dynamic_said}
+use Rattle.module_table.specs.declared.mark.Property.{Property}
+use Rattle.module_table.specs.declared.mark.Property.TheVariants.{Dynamic, Multifile}
+use Rattle.module_table.specs.Dynamic.{owned, marked, bare_said, is_joint, is_whole, dynamic_at, each_dynamic, dynamic_said}
 use Rattle.module_table.specs.Loading.{is_system, file_of, load_said, loads_said, use_all_said}
 use Rattle.module_table.specs.Directives.{Home, some_said, use_some_said, is_operator, item_exports, exports_of, exports, declared_said, module_name, module_said, silent_names, outside_names, one_said, two_said, three_said, shallow_said, directive_said, meta_said}
 use Rattle.module_table.specs.Facts.{with_added, head_with, clause_head, headed, clause_said}
@@ -36,6 +38,7 @@ IsPlain (declares own) = ⊥
 IsPlain (loads own) = Unit {0}
 IsPlain (defines own) = Unit {0}
 IsPlain (takes own) = Unit {0}
+IsPlain (marks own) = Unit {0}
 IsPlain (goal tree) = Unit {0}
 
 abbrev pub Plain : Said → Type 0
@@ -180,34 +183,34 @@ use_all_plain user tree = by_list (written_items tree) refl
 
 -- directives
 
-bare_plain : (owner : List ℕ) (tree : Tree) → Plain (bare_said owner tree)
-bare_plain owner tree = by_owned (owned owner tree) refl
+bare_plain : (property : Property) (owner : List ℕ) (tree : Tree) → Plain (bare_said property owner tree)
+bare_plain property owner tree = by_owned (owned owner tree) refl
   where
-    by_owned : (found : Option Owned) → owned owner tree ≡ found → Plain (bare_said owner tree)
-    by_owned (Some own) is = rw (is, bare_said) (only_plain (defined_bare own) tt)
+    by_owned : (found : Option Owned) → owned owner tree ≡ found → Plain (bare_said property owner tree)
+    by_owned (Some own) is = rw (is, bare_said) (only_plain (marked property own) tt)
     by_owned None is = rw (is, bare_said) refl
 
-inner_plain : (found : Option (List ℕ)) (right tree : Tree) → ((inner : List ℕ) → Plain (dynamic_at Whole inner right))
-    → Plain (elim found [ Some inner ↦ dynamic_at Whole inner right | None ↦ refused BadIndicator tree ])
-inner_plain (Some inner) right tree all = all inner
-inner_plain None right tree all = refl
+inner_plain : (property : Property) (found : Option (List ℕ)) (right tree : Tree) → ((inner : List ℕ) → Plain (dynamic_at property Whole inner right))
+    → Plain (elim found [ Some inner ↦ dynamic_at property Whole inner right | None ↦ refused BadIndicator tree ])
+inner_plain property (Some inner) right tree all = all inner
+inner_plain property None right tree all = refl
 
 mutual
-  dynamic_plain : (at : Standing) (owner : List ℕ) (tree : Tree) → Plain (dynamic_at at owner tree)
-  dynamic_plain at owner (compound own (with_more left (with_more right none)) form span) =
+  dynamic_plain : (property : Property) (at : Standing) (owner : List ℕ) (tree : Tree) → Plain (dynamic_at property at owner tree)
+  dynamic_plain property at owner (compound own (with_more left (with_more right none)) form span) =
       let tree = compound own (with_more left (with_more right none)) form span in
-      by_said (is_joint at && bytes_eq own (codes ",")) (in_turn (dynamic_at Joint owner left) (dynamic_at Joint owner right)) _
-      (turns (dynamic_at Joint owner left) (dynamic_at Joint owner right) (dynamic_plain Joint owner left) (dynamic_plain Joint owner right))
-      (by_said (bytes_eq own (codes ":")) _ (bare_said owner tree) (inner_plain (atom_name left) right tree (λ inner. dynamic_plain Whole inner right)) (bare_plain owner tree))
-  dynamic_plain at owner (listed items span) = by_said (is_whole at) (each_dynamic owner items) (refused BadIndicator (listed items span)) (each_dynamic_plain owner items) refl
-  dynamic_plain at owner (atom own span) = by_said (is_whole at && bytes_eq own (codes "[]")) nothing (refused BadIndicator (atom own span)) no_parts refl
-  dynamic_plain at owner (paren inner span) = dynamic_plain at owner inner
-  dynamic_plain at owner tree = refl
+      by_said (is_joint at && bytes_eq own (codes ",")) (in_turn (dynamic_at property Joint owner left) (dynamic_at property Joint owner right)) _
+      (turns (dynamic_at property Joint owner left) (dynamic_at property Joint owner right) (dynamic_plain property Joint owner left) (dynamic_plain property Joint owner right))
+      (by_said (bytes_eq own (codes ":")) _ (bare_said property owner tree) (inner_plain property (atom_name left) right tree (λ inner. dynamic_plain property Whole inner right)) (bare_plain property owner tree))
+  dynamic_plain property at owner (listed items span) = by_said (is_whole at) (each_dynamic property owner items) (refused BadIndicator (listed items span)) (each_dynamic_plain property owner items) refl
+  dynamic_plain property at owner (atom own span) = by_said (is_whole at && bytes_eq own (codes "[]")) nothing (refused BadIndicator (atom own span)) no_parts refl
+  dynamic_plain property at owner (paren inner span) = dynamic_plain property at owner inner
+  dynamic_plain property at owner tree = refl
 
-  each_dynamic_plain : (owner : List ℕ) (trees : Trees) → Plain (each_dynamic owner trees)
-  each_dynamic_plain owner none = no_parts
-  each_dynamic_plain owner (with_more tree trees) =
-      turns (dynamic_at Item owner tree) (each_dynamic owner trees) (dynamic_plain Item owner tree) (each_dynamic_plain owner trees)
+  each_dynamic_plain : (property : Property) (owner : List ℕ) (trees : Trees) → Plain (each_dynamic property owner trees)
+  each_dynamic_plain property owner none = no_parts
+  each_dynamic_plain property owner (with_more tree trees) =
+      turns (dynamic_at property Item owner tree) (each_dynamic property owner trees) (dynamic_plain property Item owner tree) (each_dynamic_plain property owner trees)
 
 all_taken : (ts : List Declaration) → All IsPlain (map takes ts)
 all_taken [] = All-nil IsPlain
@@ -242,10 +245,11 @@ pub one_said_plain : (user : Home) (name : List ℕ) (argument tree : Tree) → 
 one_said_plain user name argument tree =
     by_said (bytes_eq name (codes "use_module")) (use_all_said user.file argument) _ (use_all_plain user.file argument)
     (by_said (is_among (codes "ensure_loaded" ∷ codes "consult" ∷ []) name) (load_said user.file Ensure [] argument) _ (load_plain user.file Ensure [] argument)
-    (by_said (is_among (codes "dynamic" ∷ codes "multifile" ∷ []) name) (dynamic_said user.module_ argument) _ (dynamic_plain Whole user.module_ argument)
+    (by_said (bytes_eq name (codes "dynamic")) (dynamic_said Dynamic user.module_ argument) _ (dynamic_plain Dynamic Whole user.module_ argument)
+    (by_said (bytes_eq name (codes "multifile")) (dynamic_said Multifile user.module_ argument) _ (dynamic_plain Multifile Whole user.module_ argument)
     (by_said (bytes_eq name (codes "meta_predicate")) (meta_said user.module_ argument) _ (all_taken (takes_of user.module_ argument))
     (by_said (is_among silent_names name) nothing _ no_parts
-    (by_said (is_among outside_names name) (refused NotInProfile tree) (only (goal tree)) refl (only_plain (goal tree) tt))))))
+    (by_said (is_among outside_names name) (refused NotInProfile tree) (only (goal tree)) refl (only_plain (goal tree) tt)))))))
 
 late_or_first : (first : Bool) (left right tree : Tree) → One first (if first then module_said left right (start_of tree) else refused LateModule tree)
 late_or_first true left right tree = module_one left right (start_of tree)

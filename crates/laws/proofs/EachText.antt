@@ -20,7 +20,7 @@ use Rattle.clause_text.specs.TextFault.{fault_of_tokens, HasTextFault, bytes, to
 use Rattle.clause_text.proofs.KeptTables.{items_keep}
 use Rattle.clause_text.proofs.OneReading.{opening_ops_are}
 use Rattle.module_table.specs.Said.{Said, Part, Declares, Refusal}
-use Rattle.module_table.specs.Kinds.{declared_part, load_part, defined_part, takes_part, goal_part, first_of, IsModule}
+use Rattle.module_table.specs.Kinds.{declared_part, load_part, defined_part, takes_part, marks_part, goal_part, first_of, IsModule}
 use Rattle.module_table.specs.Facts.{Facts, AreFacts, AreFactsOf, file_said}
 use Rattle.module_table.specs.FileText.{HasFacts, HasFault}
 use Rattle.laws.specs.FileLayers.{IsCutOrFaulty, IsReadOrFaulty}
@@ -46,6 +46,7 @@ facts_of_parts name parts = by_module (first_of (filter_map declared_part parts)
             loads = filter_map load_part parts;
             defined = defined.0;
             metas = filter_map takes_part parts;
+            marks = filter_map marks_part parts;
             goals = filter_map goal_part parts;
           },
           record {
@@ -54,6 +55,7 @@ facts_of_parts name parts = by_module (first_of (filter_map declared_part parts)
             loads = refl;
             defined = defined.1;
             metas = refl;
+            marks = refl;
             goals = refl;
           },
         )
@@ -68,6 +70,7 @@ facts_of_parts name parts = by_module (first_of (filter_map declared_part parts)
             loads = filter_map load_part parts;
             defined = defined.0;
             metas = filter_map takes_part parts;
+            marks = filter_map marks_part parts;
             goals = filter_map goal_part parts;
           },
           record {
@@ -76,6 +79,7 @@ facts_of_parts name parts = by_module (first_of (filter_map declared_part parts)
             loads = refl;
             defined = defined.1;
             metas = refl;
+            marks = refl;
             goals = refl;
           },
         )

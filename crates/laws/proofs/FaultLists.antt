@@ -50,11 +50,11 @@ abbrev IsFaultAt : ℕ → Met → ℕ × ℕ → Type 0
 IsFaultAt file m p = (p.0 ≡ file) × (m ≡ fault p.1)
 
 abbrev met_places : ℕ → Met → List (ℕ × ℕ)
-met_places file (call from owner name arity) = []
+met_places file (call from owner name arity more negated) = []
 met_places file (fault at) = (file, at) ∷ []
 
 one_place : (file : ℕ) (m : Met) (p : ℕ × ℕ) → Contains (met_places file m) p ↔ IsFaultAt file m p
-one_place file (call from owner name arity) p = (λ has. absurd (nothing_in p has), λ is. let no : ⊥ = cc in absurd no)
+one_place file (call from owner name arity more negated) p = (λ has. absurd (nothing_in p has), λ is. let no : ⊥ = cc in absurd no)
 one_place file (fault at) p = (
   λ has.
       elim (first_or_rest (file, at) p [] has) [

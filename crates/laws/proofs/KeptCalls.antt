@@ -19,6 +19,8 @@ kept c = record {
     «module» = record { ref_ptr = (0, 0); now = c.callee.module };
     name = record { ref_ptr = (0, 0); now = c.callee.name };
     arity = c.callee.arity;
+    added = c.added;
+    negated = c.negated;
   };
   callee = c.means;
 }

@@ -9,13 +9,12 @@ use Rattle.prolog_terms.specs.Views.{sides_of, trees_in}
 use Rattle.prolog_terms.specs.Weight.{weight, weights}
 use Rattle.prolog_terms.proofs.ViewLemmas.{sides_weight}
 use Rattle.clause_text.specs.Clauses.{total_weight}
-use Rattle.module_table.specs.declared.goal_arg.GoalArg.{GoalArg}
-use Rattle.module_table.specs.declared.goal_arg.GoalArg.TheVariants.{Goal, Grammar}
 use Rattle.import_rules.specs.Program.{Seen}
 use Rattle.call_edges.specs.Bodies.{Body, body_in, clause_bodies}
 use Rattle.call_edges.specs.CallPlaces.{CallAt}
 use Rattle.call_edges.specs.Calls.{body_by, body_of}
-use Rattle.call_edges.specs.Goals.{Met, Place, Rows, Standing, curly_role, met_at, place, role_at, taken}
+use Rattle.call_edges.specs.declared.role.Role.{Role}
+use Rattle.call_edges.specs.Goals.{Met, Place, Rows, Taken, argument_role, curly_role, goal_role, grammar_role, met_at, place, taken}
 use Rattle.call_edges.specs.KeptCalls.{body_calls}
 use Rattle.call_edges.specs.Listed.{mets_among, mets_in}
 use Rattle.call_edges.specs.PlacedSeen.{call_met}
@@ -28,25 +27,25 @@ met_few (Some m) = omega arith
 
 mutual
   -- no more is met in a tree than it weighs and one
-  mets_few : (T : Rows) (owner : List ℕ) (role : GoalArg) (tree : Tree) → length (mets_in T owner role tree) ≤ weight tree + 1
+  mets_few : (T : Rows) (owner : List ℕ) (role : Role) (tree : Tree) → length (mets_in T owner role tree) ≤ weight tree + 1
   mets_few T owner role (variable span) = omega arith
   mets_few T owner role (constant kind minus value span) = omega (arith, met_few (met_at T owner role (constant kind minus value span)))
   mets_few T owner role (atom name span) = omega (arith, met_few (met_at T owner role (atom name span)))
   mets_few T owner role (compound name args form span) =
       let apart = taken T span.from owner role name (trees_in args) in
-      let rest = mets_among T apart.module_ apart.standing 0 args in
-      omega (arith, length-append (option_to_list apart.met) rest, met_few apart.met, among_few T apart.module_ apart.standing 0 args)
+      let rest = mets_among T apart 0 args in
+      omega (arith, length-append (option_to_list apart.met) rest, met_few apart.met, among_few T apart 0 args)
   mets_few T owner role (listed items span) = omega arith
   mets_few T owner role (tailed items tail span) = omega arith
   mets_few T owner role (curly inner span) = omega (arith, mets_few T owner (curly_role role) inner)
   mets_few T owner role (paren inner span) = omega (arith, mets_few T owner role inner)
 
-  among_few : (T : Rows) (owner : List ℕ) (standing : Standing) (i : ℕ) (trees : Trees) → length (mets_among T owner standing i trees) ≤ weights trees
-  among_few T owner standing i none = omega arith
-  among_few T owner standing i (more tree trees) =
-      let first = mets_in T owner (role_at standing i) tree in
-      let rest = mets_among T owner standing (i + 1) trees in
-      omega (arith, length-append first rest, mets_few T owner (role_at standing i) tree, among_few T owner standing (i + 1) trees)
+  among_few : (T : Rows) (apart : Taken) (i : ℕ) (trees : Trees) → length (mets_among T apart i trees) ≤ weights trees
+  among_few T apart i none = omega arith
+  among_few T apart i (more tree trees) =
+      let first = mets_in T apart.module_ (argument_role apart i) tree in
+      let rest = mets_among T apart (i + 1) trees in
+      omega (arith, length-append first rest, mets_few T apart.module_ (argument_role apart i) tree, among_few T apart (i + 1) trees)
 
 fewer_given : {X Y : Type 0} (give : X → Option Y) (xs : List X) → length (filter_map give xs) ≤ length xs
 fewer_given give [] = omega arith
@@ -60,10 +59,10 @@ fewer_given {Y = Y} give (x ∷ xs) = at (give x) (fewer_given give xs)
 body_lighter : (owner : List ℕ) (clause : Tree) (rule grammar : Option (Tree × Tree)) (body : Place) → sides_of (codes ":-") clause ≡ rule
     → sides_of (codes "-->") clause ≡ grammar → body_by owner rule grammar ≡ Some body → weight body.tree ≤ weight clause
 body_lighter owner clause (Some (left, right)) grammar body first second is =
-    let same : place owner (Goal 0) right ≡ body = same_Some (place owner (Goal 0) right) body is in
+    let same : place owner goal_role right ≡ body = same_Some (place owner goal_role right) body is in
     omega (arith, sides_weight (codes ":-") clause left right first, ap (λ (p : Place). weight p.tree) same)
 body_lighter owner clause None (Some (left, right)) body first second is =
-    let same : place owner Grammar right ≡ body = same_Some (place owner Grammar right) body is in
+    let same : place owner grammar_role right ≡ body = same_Some (place owner grammar_role right) body is in
     omega (arith, sides_weight (codes "-->") clause left right second, ap (λ (p : Place). weight p.tree) same)
 body_lighter owner clause None None body first second is = absurd (none-some body is)
 

@@ -8,8 +8,7 @@ use Rattle.list_laws.proofs.OneOrder.{nothing_in}
 use Rattle.prolog_terms.specs.Tree.{Tree}
 use Rattle.module_table.specs.Defined.{Predicate}
 use Rattle.module_table.specs.Facts.{Facts}
-use Rattle.module_table.specs.declared.goal_arg.GoalArg.TheVariants.{Goal}
-use Rattle.call_edges.specs.Goals.{Met, Place, place, Rows, IsMet}
+use Rattle.call_edges.specs.Goals.{Met, Place, place, goal_role, Rows, IsMet}
 use Rattle.call_edges.specs.Listed.{mets_in}
 use Rattle.call_edges.specs.Calls.{body_of, IsAmong, IsMetInClause, IsMetInGoals}
 use Rattle.call_edges.specs.GoalFaults.{IsMetInFile}
@@ -51,12 +50,12 @@ module _ (T : Rows) where
   -- what is met in goals of directives
 
   abbrev pub goal_mets : Facts → List Met
-  goal_mets file = flat_map (λ goal. mets_in T file.module_ (Goal 0) goal) file.goals
+  goal_mets file = flat_map (λ goal. mets_in T file.module_ goal_role goal) file.goals
 
   pub goals_have : (file : Facts) (m : Met) → Contains (goal_mets file) m ↔ (IsMetInGoals T) file m
   goals_have file m =
-      given_has (λ goal. mets_in T file.module_ (Goal 0) goal) (λ goal. IsMet T (place file.module_ (Goal 0) goal))
-      (λ goal n. mets_are T file.module_ (Goal 0) goal n) file.goals m
+      given_has (λ goal. mets_in T file.module_ goal_role goal) (λ goal. IsMet T (place file.module_ goal_role goal))
+      (λ goal n. mets_are T file.module_ goal_role goal n) file.goals m
 
   -- what is met in a file
 

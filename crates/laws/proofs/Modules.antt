@@ -4,7 +4,7 @@ use Rattle.std.specs.Prelude.{All, Contains}
 use Rattle.std.specs.List.{filter_map}
 use Rattle.std.proofs.lemmas.List.Elements.{All-cons, All-append, All-head, All-tail, All-weaker, All-contains, filter_map-append}
 use Rattle.prolog_terms.specs.Tree.{Tree}
-use Rattle.module_table.specs.Said.{Said, Part, Declares, declares, loads, defines, takes, goal, Refusal, in_turn, each_said}
+use Rattle.module_table.specs.Said.{Said, Part, Declares, declares, loads, defines, takes, marks, goal, Refusal, in_turn, each_said}
 use Rattle.module_table.specs.Kinds.{declared_part, first_of, IsModule}
 use Rattle.module_table.specs.Directives.{Home, home}
 use Rattle.module_table.specs.Facts.{Facts, AreFacts, module_by, module_of, clause_said, trees_said, file_said}
@@ -79,6 +79,7 @@ none_declared (declares own ∷ parts) all = absurd (All-head IsPlain (declares 
 none_declared (loads own ∷ parts) all = none_declared parts (All-tail IsPlain (loads own) parts all)
 none_declared (defines own ∷ parts) all = none_declared parts (All-tail IsPlain (defines own) parts all)
 none_declared (takes own ∷ parts) all = none_declared parts (All-tail IsPlain (takes own) parts all)
+none_declared (marks own ∷ parts) all = none_declared parts (All-tail IsPlain (marks own) parts all)
 none_declared (goal own ∷ parts) all = none_declared parts (All-tail IsPlain (goal own) parts all)
 
 module_told : (user : List ℕ) (trees : List Tree) (parts : List Part) → file_said user trees ≡ Ok parts → first_of (filter_map declared_part parts) ≡ first_module user trees

@@ -2,18 +2,23 @@
 use Rattle.std.proofs.Common.{◌≡◌, ◌↔◌, inl, inr, ℕ, ◌<◌, Bool, true, false, not, List, [], cond, get_or, length, map, refl, sym, ◌∙◌, subst, arith}
 use Rattle.std.specs.Prelude.{Contains}
 use Rattle.std.specs.List.{flat_map, range_with_len}
+use Rattle.std.specs.Option.{option_to_list}
 use Rattle.std.proofs.lemmas.Bool.{false≢true}
 use Rattle.std.proofs.lemmas.List.{ext_get_or}
 use Rattle.std.proofs.lemmas.List.FromFn.{get_or-map-range_with_len, length-map-range_with_len}
 use Rattle.list_laws.proofs.OneOrder.{nothing_in}
+use Rattle.module_table.specs.declared.mark.Property.{Property}
+use Rattle.module_table.specs.declared.mark.Property.TheVariants.{Dynamic, Multifile}
+use Rattle.module_table.specs.Marks.{Marked}
 use Rattle.module_table.specs.Facts.{Facts}
-use Rattle.import_rules.specs.Program.{Seen}
+use Rattle.import_rules.specs.Program.{Seen, found}
+use Rattle.call_edges.specs.Properties.{IsDeclared, IsDeclaredBy, IsDeclaredIn, IsDynamic, IsMultifile}
 use Rattle.call_edges.specs.RootReasons.{IsExported, IsExportedByModule, IsRootByDirective, IsRootByExport, IsRootByFile}
 use Rattle.call_edges.specs.Roots.{IsCalledByGoal, IsDefinedByRoot, IsExportedByRoot}
 use Rattle.call_table.specs.Marks.{AreMarked, AreMarks, ProgramMarks}
 use Rattle.laws.proofs.Choices.{Decided, in_or_out}
 use Rattle.laws.proofs.Mets.{given_has}
-use Rattle.laws.proofs.RootLists.{called_are, given_are, given_by, goals_call, is_root, is_the_root, root_is}
+use Rattle.laws.proofs.RootLists.{called_are, given_are, given_by, goals_call, is_root, is_the_root, one_there, root_is}
 
 -- a list where it holds
 only_if : (b : Bool) (xs : List ℕ) (q : ℕ) → Contains (cond b xs []) q ↔ ((b ≡ true) × Contains xs q)
@@ -77,6 +82,39 @@ root_defines_are seen file q =
       λ is. here.1 (is_the_root seen file is.0.is_root, plain.1 (set_not file.is_module is.0.plain, are.1 is.1)),
     )
 
+-- what directives declare to have a property
+
+same_property : Property → Property → Bool
+same_property Dynamic Dynamic = true
+same_property Dynamic Multifile = false
+same_property Multifile Dynamic = false
+same_property Multifile Multifile = true
+
+are_same : (a b : Property) → (same_property a b ≡ true) ↔ (a ≡ b)
+are_same Dynamic Dynamic = (λ is. refl, λ same. refl)
+are_same Dynamic Multifile = (λ is. absurd (false≢true is), λ same. let both : Dynamic ≡ Multifile = same in absurd (cc))
+are_same Multifile Dynamic = (λ is. absurd (false≢true is), λ same. let both : Multifile ≡ Dynamic = same in absurd (cc))
+are_same Multifile Multifile = (λ is. refl, λ same. refl)
+
+abbrev marked_by : Seen → Property → Marked → List ℕ
+marked_by seen property mark = cond (same_property mark.property property) (option_to_list (found seen mark.module_ mark.name mark.arity)) []
+
+marked_are : (seen : Seen) (property : Property) (mark : Marked) (q : ℕ) → Contains (marked_by seen property mark) q ↔ IsDeclaredBy seen property mark q
+marked_are seen property mark q =
+    let means = found seen mark.module_ mark.name mark.arity in
+    let here = only_if (same_property mark.property property) (option_to_list means) q in
+    let same = are_same mark.property property in
+    let one = one_there means q in (
+      λ has. let both = here.0 has in record { is = same.0 both.0; means = one.0 both.1 },
+      λ declared. here.1 (same.1 declared.is, one.1 declared.means),
+    )
+
+abbrev declared_in : Seen → Property → Facts → List ℕ
+declared_in seen property file = flat_map (marked_by seen property) file.marks
+
+declared_are : (seen : Seen) (property : Property) (file : Facts) (q : ℕ) → Contains (declared_in seen property file) q ↔ IsDeclaredIn seen property file q
+declared_are seen property file q = given_has (marked_by seen property) (IsDeclaredBy seen property) (marked_are seen property) file.marks q
+
 -- there are marks of what is decided
 
 set_by : {P : Type 0} → Decided P → Bool
@@ -112,6 +150,12 @@ marks_listed count P nodes are =
       },
     )
 
+declared_marks : (seen : Seen) (property : Property) → SomeMarks (length seen.predicates) (IsDeclared seen property)
+declared_marks seen property =
+    let files = seen.loaded.files in
+    marks_listed (length seen.predicates) (IsDeclared seen property) (flat_map (declared_in seen property) files)
+    (given_has (declared_in seen property) (IsDeclaredIn seen property) (declared_are seen property) files)
+
 pub marks_exist : (listed : Bool) (seen : Seen) (roots : List ℕ) → (marks : ProgramMarks) × AreMarked listed seen roots marks
 marks_exist listed seen roots =
     let count = length seen.predicates in
@@ -126,7 +170,9 @@ marks_exist listed seen roots =
     marks_listed count (IsRootByDirective seen) (flat_map (goals_call seen) files) (given_has (goals_call seen) (IsCalledByGoal seen) (called_are seen) files) in
     let by_file =
     marks_listed count (IsRootByFile seen) (flat_map (root_defines seen) files)
-    (given_has (root_defines seen) (IsDefinedByRoot seen) (root_defines_are seen) files) in (
+    (given_has (root_defines seen) (IsDefinedByRoot seen) (root_defines_are seen) files) in
+    let dynamic = declared_marks seen Dynamic in
+    let multifile = declared_marks seen Multifile in (
       record {
         listed = listed;
         roots = named.0;
@@ -134,6 +180,8 @@ marks_exist listed seen roots =
         by_export = by_export.0;
         by_directive = by_directive.0;
         by_file = by_file.0;
+        dynamic = dynamic.0;
+        multifile = multifile.0;
       },
       record {
         listed_is = refl;
@@ -142,6 +190,8 @@ marks_exist listed seen roots =
         by_export_are = by_export.1;
         by_directive_are = by_directive.1;
         by_file_are = by_file.1;
+        dynamic_are = dynamic.1;
+        multifile_are = multifile.1;
       },
     )
 
@@ -170,6 +220,8 @@ one_marked listed seen roots a b are also =
     let export_same = one_marks count (IsRootByExport seen) a.by_export b.by_export are.by_export_are also.by_export_are in
     let directive_same = one_marks count (IsRootByDirective seen) a.by_directive b.by_directive are.by_directive_are also.by_directive_are in
     let file_same = one_marks count (IsRootByFile seen) a.by_file b.by_file are.by_file_are also.by_file_are in
+    let dynamic_same = one_marks count (IsDynamic seen) a.dynamic b.dynamic are.dynamic_are also.dynamic_are in
+    let multifile_same = one_marks count (IsMultifile seen) a.multifile b.multifile are.multifile_are also.multifile_are in
     λ i. record {
       listed = listed_same i;
       roots = roots_same i;
@@ -177,4 +229,6 @@ one_marked listed seen roots a b are also =
       by_export = export_same i;
       by_directive = directive_same i;
       by_file = file_same i;
+      dynamic = dynamic_same i;
+      multifile = multifile_same i;
     }

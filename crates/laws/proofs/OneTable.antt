@@ -14,9 +14,10 @@ use Rattle.call_edges.specs.CallPlaces.{AreCallsOf, CallAt, call_cmp}
 use Rattle.call_edges.specs.PlacedSeen.{see_calls}
 use Rattle.call_edges.proofs.PlacedCallLemmas.{call_cmp_total}
 use Rattle.call_table.specs.declared.clauses.ClauseAt.{ClauseAt}
+use Rattle.call_table.specs.declared.extents.Extent.{Extent}
 use Rattle.call_table.specs.declared.table.CallTable.{CallTable}
 use Rattle.call_table.specs.Clauses.{AreClausesOf, clause_cmp}
-use Rattle.call_table.specs.Table.{IsTable, call_spot, clause_spot}
+use Rattle.call_table.specs.Table.{IsExtentOf, IsTable, call_spot, clause_end, clause_spot}
 use Rattle.call_table.proofs.ClauseLemmas.{clause_cmp_total}
 
 same_clauses : (seen : Seen) (nodes : List ℕ) (clauses others : List ClauseAt) → AreClausesOf seen nodes clauses → AreClausesOf seen nodes others
@@ -48,18 +49,36 @@ same_places texts (s ∷ spots) (p ∷ ps) (q ∷ qs) are also =
     let rest = same_places texts spots ps qs are.1 also.1 in
     λ i. first i ∷ rest i
 
+-- and so does each clause
+same_extent : (texts : List NamedText) (c : ClauseAt) (x y : Extent) → IsExtentOf texts c x → IsExtentOf texts c y → x ≡ y
+same_extent texts c x y is also =
+    let start = same_place texts (clause_spot c) x.start y.start is.start also.start in
+    let end = same_place texts (clause_end c) x.end y.end is.end also.end in
+    λ i. record { start = start i; end = end i }
+
+same_extents : (texts : List NamedText) (clauses : List ClauseAt) (xs ys : List Extent) → AllZip (IsExtentOf texts) clauses xs
+    → AllZip (IsExtentOf texts) clauses ys → xs ≡ ys
+same_extents texts [] [] [] are also = refl
+same_extents texts [] [] (y ∷ ys) are also = absurd also
+same_extents texts [] (x ∷ xs) ys are also = absurd are
+same_extents texts (c ∷ clauses) [] ys are also = absurd are
+same_extents texts (c ∷ clauses) (x ∷ xs) [] are also = absurd also
+same_extents texts (c ∷ clauses) (x ∷ xs) (y ∷ ys) are also =
+    let first = same_extent texts c x y are.0 also.0 in
+    let rest = same_extents texts clauses xs ys are.1 also.1 in
+    λ i. first i ∷ rest i
+
 module _ (seen : Seen) (nodes : List ℕ) (groups others : List (List ℕ)) (a b : CallTable)
     (is : IsTable seen nodes groups a) (also : IsTable seen nodes others b)
   where
     pub one_clauses : a.clauses.items ≡ b.clauses.items
     one_clauses = same_clauses seen nodes a.clauses.items b.clauses.items is.clauses also.clauses
 
-    pub one_clause_places : a.clause_places.items ≡ b.clause_places.items
-    one_clause_places =
+    pub one_clause_extents : a.clause_extents.items ≡ b.clause_extents.items
+    one_clause_extents =
         let texts = seen.loaded.texts in
-        let P : List ClauseAt → Type 0 = λ cs. AllZip (IsSpotPlace texts) (map clause_spot cs) a.clause_places.items in
-        same_places texts (map clause_spot b.clauses.items) a.clause_places.items b.clause_places.items (subst P one_clauses is.clause_places)
-        also.clause_places
+        let P : List ClauseAt → Type 0 = λ cs. AllZip (IsExtentOf texts) cs a.clause_extents.items in
+        same_extents texts b.clauses.items a.clause_extents.items b.clause_extents.items (subst P one_clauses is.clause_extents) also.clause_extents
 
     pub one_calls : see_calls a.calls.items ≡ see_calls b.calls.items
     one_calls = same_calls seen nodes (see_calls a.calls.items) (see_calls b.calls.items) is.calls also.calls

@@ -24,7 +24,7 @@ use Rattle.call_writer.specs.Marks.{mark_fields}
 use Rattle.laws.proofs.CondensedEdges.{same_edges}
 use Rattle.laws.proofs.NodeMarks.{one_marked}
 use Rattle.laws.proofs.PlacedDirectives.{one_of_directives}
-use Rattle.laws.proofs.OneTable.{one_call_places, one_calls, one_clause_places, one_clauses}
+use Rattle.laws.proofs.OneTable.{one_call_places, one_calls, one_clause_extents, one_clauses}
 use Rattle.laws.proofs.SameGroups.{each_same, same_nodes}
 
 -- the line of a predicate with what is told of its group
@@ -41,7 +41,7 @@ module _ (seen : Seen) (nodes : List ℕ) (groups others : List (List ℕ)) (a b
     same_clause_lines : clause_lines seen a ≡ clause_lines seen b
     same_clause_lines =
         let clauses = one_clauses seen nodes groups others a b is also in
-        let places = one_clause_places seen nodes groups others a b is also in
+        let places = one_clause_extents seen nodes groups others a b is also in
         λ i. flat_map (λ pair. clause_line seen pair.0 pair.1) (zip (clauses i) (places i))
 
     same_call_lines : (undefined : Bool) → call_lines undefined seen a ≡ call_lines undefined seen b

@@ -92,7 +92,7 @@ none_name None name = name ∷ []
 none_name (Some n) name = []
 
 abbrev unresolved_name : Seen → Met → List PredName
-unresolved_name seen (call at owner name arity) = none_name (found seen owner name arity) (pred_name owner name arity)
+unresolved_name seen (call at owner name arity more negated) = none_name (found seen owner name arity) (pred_name owner name arity)
 unresolved_name seen (fault at) = []
 
 abbrev names_of : Seen → ℕ → List PredName
@@ -103,9 +103,9 @@ in_none None name other has = elim (first_or_rest name other [] has) [ inl same 
 in_none (Some n) name other has = absurd (nothing_in other has)
 
 met_name : (seen : Seen) (node : ℕ) (m : Met) (name : PredName) → IsMetIn seen node m → Contains (unresolved_name seen m) name → IsUnresolved seen node name
-met_name seen node (call at owner called arity) name met has =
+met_name seen node (call at owner called arity more negated) name met has =
     let one = in_none (found seen owner called arity) (pred_name owner called arity) name has in
-    subst (IsUnresolved seen node) one.0 (record { at = at; met = met; means_none = one.1 })
+    subst (IsUnresolved seen node) one.0 (record { at = at; added = more; negated = negated; met = met; means_none = one.1 })
 met_name seen node (fault at) name met has = absurd (nothing_in name has)
 
 name_sound : (seen : Seen) (node : ℕ) (name : PredName) → Contains (names_of seen node) name → IsUnresolved seen node name
@@ -117,8 +117,8 @@ name_there : (seen : Seen) (node : ℕ) (name : PredName) → IsUnresolved seen 
 name_there seen node name is =
     (flat_has (unresolved_name seen) (node_mets seen node) name).1
     (record {
-      one = call is.at name.module name.name name.arity;
-      has = (node_mets_are seen node (call is.at name.module name.name name.arity)).1 is.met;
+      one = call is.at name.module name.name name.arity is.added is.negated;
+      has = (node_mets_are seen node (call is.at name.module name.name name.arity is.added is.negated)).1 is.met;
       is = subst (λ target. Contains (none_name target name) name) (sym is.means_none) (in_first name []);
     })
 

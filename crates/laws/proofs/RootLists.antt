@@ -23,7 +23,7 @@ use Rattle.call_edges.specs.Roots.{Gives, IsGivenByRoot, IsCalledByGoal, IsRoot}
 use Rattle.laws.proofs.Mets.{given_has, goal_mets, goals_have}
 use Rattle.laws.proofs.Orders.{HasOnce, has_once}
 
-one_there : (o : Option ℕ) (q : ℕ) → Contains (option_to_list o) q ↔ (o ≡ Some q)
+pub one_there : (o : Option ℕ) (q : ℕ) → Contains (option_to_list o) q ↔ (o ≡ Some q)
 one_there None q = (λ has. absurd (nothing_in q has), λ is. absurd (none-some q is))
 one_there (Some n) q = (
   λ has. elim (first_or_rest n q [] has) [ inl same ↦ ap (λ k. Some k) same | inr none ↦ absurd (nothing_in q none) ],

@@ -5,7 +5,7 @@ use Rattle.std.proofs.lemmas.List.Elements.{filter_map-append}
 use Rattle.prolog_terms.specs.Tree.{Tree}
 use Rattle.module_table.specs.Defined.{AreDefined}
 use Rattle.module_table.specs.Said.{Said, Part, Refusal, more, in_turn, each_said}
-use Rattle.module_table.specs.Kinds.{declared_part, load_part, defined_part, goal_part, first_of, IsModule, takes_part}
+use Rattle.module_table.specs.Kinds.{declared_part, load_part, defined_part, goal_part, first_of, IsModule, takes_part, marks_part}
 use Rattle.module_table.specs.Directives.{Home, home}
 use Rattle.module_table.specs.Facts.{Facts, AreFacts, module_of, clause_said, trees_said}
 use Rattle.module_table.proofs.SaidLemmas.{ok_once}
@@ -180,5 +180,6 @@ facts_of_each user trees facts are =
       loads = are.are.loads ∙ (ap (filter_map load_part) all.join ∙ kind_of_each load_part all.lists);
       defined = subst (λ ds. AreDefined ds facts.defined) defined are.are.defined;
       metas = are.are.metas ∙ (ap (filter_map takes_part) all.join ∙ kind_of_each takes_part all.lists);
+      marks = are.are.marks ∙ (ap (filter_map marks_part) all.join ∙ kind_of_each marks_part all.lists);
       goals = are.are.goals ∙ (ap (filter_map goal_part) all.join ∙ kind_of_each goal_part all.lists);
     }

@@ -4,7 +4,7 @@ use Rattle.std.specs.List.{filter_map}
 use Rattle.prolog_terms.specs.Tree.{Tree}
 use Rattle.module_table.specs.Defined.{AreDefined}
 use Rattle.module_table.specs.Said.{Said, Part, Declares, Refusal}
-use Rattle.module_table.specs.Kinds.{declared_part, load_part, defined_part, goal_part, first_of, IsModule, takes_part}
+use Rattle.module_table.specs.Kinds.{declared_part, load_part, defined_part, goal_part, first_of, IsModule, takes_part, marks_part}
 use Rattle.module_table.specs.Directives.{Home, home}
 use Rattle.module_table.specs.Facts.{Facts, module_by, module_of, clause_said}
 
@@ -39,8 +39,8 @@ pub record IsFirstRefusal (user : Home) (trees : List Tree) (refusal : Refusal) 
   pub told_before : AreTold user before lists
   pub refused : said_behind user before tree ≡ Err refusal
 
--- each clause says the parts of its list, and the facts are these: each load, definition, declaration of goal arguments
--- and goal of a clause in its turn, and no others
+-- each clause says the parts of its list, and the facts are these: each load, definition, declaration of goal arguments,
+-- declared property and goal of a clause in its turn, and no others
 pub record AreFactsOfEach (user : List ℕ) (trees : List Tree) (facts : Facts) : Type 0 where
   pub lists : List (List Part)
   pub are : AreTold (home user (module_of trees)) trees lists
@@ -48,6 +48,7 @@ pub record AreFactsOfEach (user : List ℕ) (trees : List Tree) (facts : Facts) 
   pub loads : facts.loads ≡ flat_map (filter_map load_part) lists
   pub defined : AreDefined (flat_map (filter_map defined_part) lists) facts.defined
   pub metas : facts.metas ≡ flat_map (filter_map takes_part) lists
+  pub marks : facts.marks ≡ flat_map (filter_map marks_part) lists
   pub goals : facts.goals ≡ flat_map (filter_map goal_part) lists
 
 -- the module that a clause declares

@@ -10,7 +10,7 @@ use Rattle.list_laws.proofs.Members.{kept_in}
 use Rattle.prolog_terms.specs.Tree.{Tree}
 use Rattle.clause_text.specs.Items.{directive_of}
 use Rattle.module_table.specs.Defined.{Defines, Predicate, clause_for, clauses_for}
-use Rattle.module_table.specs.Said.{Said, Part, Loads, declares, loads, defines, goal, Refusal, in_turn, each_said, takes}
+use Rattle.module_table.specs.Said.{Said, Part, Loads, declares, loads, defines, goal, Refusal, in_turn, each_said, takes, marks}
 use Rattle.module_table.specs.Metas.{Declaration, IsSmall}
 use Rattle.module_table.specs.Kinds.{defined_part, load_part, takes_part}
 use Rattle.module_table.specs.Heads.{Owned}
@@ -45,6 +45,7 @@ module _ (user : Home) (owner name : List ℕ) (arity : ℕ) where
   bare (loads own ∷ parts) all = bare parts all.1
   bare (defines own ∷ parts) all = (λ i. clause_for owner name arity (record own { clause = all.0 i }) ++ clauses_in parts) ∙ bare parts all.1
   bare (takes own ∷ parts) all = bare parts all.1
+  bare (marks own ∷ parts) all = bare parts all.1
   bare (goal own ∷ parts) all = bare parts all.1
 
   directive_none : (said : Said) → OfDirective user said → HasClauses said []
@@ -188,6 +189,7 @@ IsNamed (declares own) = Unit {0}
 IsNamed (loads own) = IsFileName own.file
 IsNamed (defines own) = Unit {0}
 IsNamed (takes own) = Unit {0}
+IsNamed (marks own) = Unit {0}
 IsNamed (goal own) = Unit {0}
 
 module _ (user : Home) where
@@ -197,6 +199,7 @@ module _ (user : Home) where
   named_parts (loads own ∷ parts) all = (of_paths.names_resolved user.file all.0.0 own.file all.0.1, named_parts parts all.1)
   named_parts (defines own ∷ parts) all = (tt, named_parts parts all.1)
   named_parts (takes own ∷ parts) all = (tt, named_parts parts all.1)
+  named_parts (marks own ∷ parts) all = (tt, named_parts parts all.1)
   named_parts (goal own ∷ parts) all = (tt, named_parts parts all.1)
 
   named_said : (said : Said) → OfDirective user said → AllFit IsNamed said
@@ -228,6 +231,7 @@ loads_in (declares own ∷ parts) all = loads_in parts all.1
 loads_in (loads own ∷ parts) all = (all.0, loads_in parts all.1)
 loads_in (defines own ∷ parts) all = loads_in parts all.1
 loads_in (takes own ∷ parts) all = loads_in parts all.1
+loads_in (marks own ∷ parts) all = loads_in parts all.1
 loads_in (goal own ∷ parts) all = loads_in parts all.1
 
 pub loads_named : (user : List ℕ) (trees : List Tree) (facts : Facts) → AreFacts user trees facts → All (λ (load : Loads). IsFileName load.file) facts.loads
@@ -243,6 +247,7 @@ AddsFew (declares own) = Unit {0}
 AddsFew (loads own) = Unit {0}
 AddsFew (defines own) = Unit {0}
 AddsFew (takes own) = AllByRecursion IsSmall own.args
+AddsFew (marks own) = Unit {0}
 AddsFew (goal own) = Unit {0}
 
 module _ (user : Home) where
@@ -252,6 +257,7 @@ module _ (user : Home) where
   few_parts (loads own ∷ parts) all = (tt, few_parts parts all.1)
   few_parts (defines own ∷ parts) all = (tt, few_parts parts all.1)
   few_parts (takes own ∷ parts) all = (all.0, few_parts parts all.1)
+  few_parts (marks own ∷ parts) all = (tt, few_parts parts all.1)
   few_parts (goal own ∷ parts) all = (tt, few_parts parts all.1)
 
   few_said : (said : Said) → OfDirective user said → AllFit AddsFew said
@@ -286,6 +292,7 @@ small_in (declares d ∷ parts) all = small_in parts all.1
 small_in (loads d ∷ parts) all = small_in parts all.1
 small_in (defines d ∷ parts) all = small_in parts all.1
 small_in (takes d ∷ parts) all = (All-from_recursion IsSmall d.args all.0, small_in parts all.1)
+small_in (marks d ∷ parts) all = small_in parts all.1
 small_in (goal d ∷ parts) all = small_in parts all.1
 
 pub metas_small : (user : List ℕ) (trees : List Tree) (facts : Facts) → AreFacts user trees facts → All (λ (d : Declaration). All IsSmall d.args) facts.metas

@@ -15,12 +15,14 @@ use Rattle.module_table.specs.declared.load.LoadKind.{LoadKind}
 use Rattle.module_table.specs.declared.load.LoadKind.TheVariants.{UseAll, UseSome, Ensure}
 use Rattle.module_table.specs.FileName.{resolved}
 use Rattle.module_table.specs.Metas.{Declaration, IsSmall, goal_arg, goal_arg_at, name_arg, digit_arg, takes_of, all_takes}
-use Rattle.module_table.specs.Said.{Said, Part, declares, loads, defines, goal, Refusal, refused, in_turn, each_said, takes}
+use Rattle.module_table.specs.Said.{Said, Part, declares, loads, defines, goal, Refusal, refused, in_turn, each_said, takes, marks}
 use Rattle.clause_text.specs.declared.cause.Cause.TheVariants.{BadIndicator}
 use Rattle.module_table.specs.Indicators.{listed_indicators}
 use Rattle.module_table.specs.Heads.{is_among, Owned}
 use Rattle.module_table.specs.declared.dynamic.Standing.{Standing}
 use Rattle.module_table.specs.declared.dynamic.Standing.TheVariants.{Whole, Joint, Item}
+use Rattle.module_table.specs.declared.mark.Property.{Property}
+use Rattle.module_table.specs.declared.mark.Property.TheVariants.{Dynamic, Multifile}
 use Rattle.module_table.specs.Dynamic.{owned, bare_said, is_joint, is_whole, dynamic_at, each_dynamic}
 use Rattle.module_table.specs.Loading.{path_text, resolved_in, is_system, file_of, load_said, loads_said, use_all_said}
 use Rattle.module_table.specs.Directives.{Home, some_said, exports, declared_said, module_name, module_said, silent_names, outside_names, one_said, two_said, three_said, shallow_said, directive_said}
@@ -113,6 +115,7 @@ module _ (user : Home) where
   IsOfDirective (loads own) = (spec : List ℕ) × (resolved user.file spec ≡ Some own.file)
   IsOfDirective (defines own) = own.clause ≡ None
   IsOfDirective (takes own) = AllByRecursion IsSmall own.args
+  IsOfDirective (marks own) = Unit {0}
   IsOfDirective (goal own) = Unit {0}
 
   abbrev pub OfDirective : Said → Type 0
@@ -151,35 +154,35 @@ module _ (user : Home) where
       by_items (Some trees) is = rw (is, use_all_said) (loads_of UseAll trees)
       by_items None is = rw (is, use_all_said) (load_of UseAll [] tree)
 
-  bare_of : (owner : List ℕ) (tree : Tree) → OfDirective (bare_said owner tree)
-  bare_of owner tree = by_owned (owned owner tree) refl
+  bare_of : (property : Property) (owner : List ℕ) (tree : Tree) → OfDirective (bare_said property owner tree)
+  bare_of property owner tree = by_owned (owned owner tree) refl
     where
-      by_owned : (found : Option Owned) → owned owner tree ≡ found → OfDirective (bare_said owner tree)
-      by_owned (Some own) is = rw (is, bare_said) (refl, tt)
+      by_owned : (found : Option Owned) → owned owner tree ≡ found → OfDirective (bare_said property owner tree)
+      by_owned (Some own) is = rw (is, bare_said) (tt, tt)
       by_owned None is = rw (is, bare_said) tt
 
-  inner_of : (found : Option (List ℕ)) (right tree : Tree) → ((inner : List ℕ) → OfDirective (dynamic_at Whole inner right))
-      → OfDirective (elim found [ Some inner ↦ dynamic_at Whole inner right | None ↦ refused BadIndicator tree ])
-  inner_of (Some inner) right tree all = all inner
-  inner_of None right tree all = tt
+  inner_of : (property : Property) (found : Option (List ℕ)) (right tree : Tree) → ((inner : List ℕ) → OfDirective (dynamic_at property Whole inner right))
+      → OfDirective (elim found [ Some inner ↦ dynamic_at property Whole inner right | None ↦ refused BadIndicator tree ])
+  inner_of property (Some inner) right tree all = all inner
+  inner_of property None right tree all = tt
 
-  -- what `dynamic` and `multifile` define has no clauses
+  -- what `dynamic` and `multifile` declare
   mutual
-    dynamic_of : (at : Standing) (owner : List ℕ) (tree : Tree) → OfDirective (dynamic_at at owner tree)
-    dynamic_of at owner (compound own (with_more left (with_more right none)) form span) =
+    dynamic_of : (property : Property) (at : Standing) (owner : List ℕ) (tree : Tree) → OfDirective (dynamic_at property at owner tree)
+    dynamic_of property at owner (compound own (with_more left (with_more right none)) form span) =
         let tree = compound own (with_more left (with_more right none)) form span in
         by_test (is_joint at && bytes_eq own (codes ",")) _ _
-        (fit_in_turn IsOfDirective (dynamic_at Joint owner left) (dynamic_at Joint owner right) (dynamic_of Joint owner left) (dynamic_of Joint owner right))
-        (by_test (bytes_eq own (codes ":")) _ _ (inner_of (atom_name left) right tree (λ inner. dynamic_of Whole inner right)) (bare_of owner tree))
-    dynamic_of at owner (listed items span) = by_test (is_whole at) _ _ (each_dynamic_of owner items) tt
-    dynamic_of at owner (atom own span) = by_test (is_whole at && bytes_eq own (codes "[]")) _ _ tt tt
-    dynamic_of at owner (paren inner span) = dynamic_of at owner inner
-    dynamic_of at owner tree = tt
+        (fit_in_turn IsOfDirective (dynamic_at property Joint owner left) (dynamic_at property Joint owner right) (dynamic_of property Joint owner left) (dynamic_of property Joint owner right))
+        (by_test (bytes_eq own (codes ":")) _ _ (inner_of property (atom_name left) right tree (λ inner. dynamic_of property Whole inner right)) (bare_of property owner tree))
+    dynamic_of property at owner (listed items span) = by_test (is_whole at) _ _ (each_dynamic_of property owner items) tt
+    dynamic_of property at owner (atom own span) = by_test (is_whole at && bytes_eq own (codes "[]")) _ _ tt tt
+    dynamic_of property at owner (paren inner span) = dynamic_of property at owner inner
+    dynamic_of property at owner tree = tt
 
-    each_dynamic_of : (owner : List ℕ) (trees : Trees) → OfDirective (each_dynamic owner trees)
-    each_dynamic_of owner none = tt
-    each_dynamic_of owner (with_more tree trees) =
-        fit_in_turn IsOfDirective (dynamic_at Item owner tree) (each_dynamic owner trees) (dynamic_of Item owner tree) (each_dynamic_of owner trees)
+    each_dynamic_of : (property : Property) (owner : List ℕ) (trees : Trees) → OfDirective (each_dynamic property owner trees)
+    each_dynamic_of property owner none = tt
+    each_dynamic_of property owner (with_more tree trees) =
+        fit_in_turn IsOfDirective (dynamic_at property Item owner tree) (each_dynamic property owner trees) (dynamic_of property Item owner tree) (each_dynamic_of property owner trees)
 
   taken_of : (ts : List Declaration) → AllByRecursion AreSmall ts → AllByRecursion IsOfDirective (map takes ts)
   taken_of [] all = tt
@@ -204,9 +207,10 @@ module _ (user : Home) where
   one_of own argument tree =
       by_test (bytes_eq own (codes "use_module")) _ _ (use_all_of argument)
       (by_test (is_among (codes "ensure_loaded" ∷ codes "consult" ∷ []) own) _ _ (load_of Ensure [] argument)
-      (by_test (is_among (codes "dynamic" ∷ codes "multifile" ∷ []) own) _ _ (dynamic_of Whole user.module_ argument)
+      (by_test (bytes_eq own (codes "dynamic")) _ _ (dynamic_of Dynamic Whole user.module_ argument)
+      (by_test (bytes_eq own (codes "multifile")) _ _ (dynamic_of Multifile Whole user.module_ argument)
       (by_test (bytes_eq own (codes "meta_predicate")) _ _ (taken_of (takes_of user.module_ argument) (takes_small user.module_ argument))
-      (by_test (is_among silent_names own) _ _ tt (by_test (is_among outside_names own) _ _ tt (tt, tt))))))
+      (by_test (is_among silent_names own) _ _ tt (by_test (is_among outside_names own) _ _ tt (tt, tt)))))))
 
   two_of : (first : Bool) (own : List ℕ) (left right tree : Tree) → OfDirective (two_said user first own left right tree)
   two_of first own left right tree =

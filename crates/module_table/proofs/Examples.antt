@@ -10,7 +10,9 @@ use Rattle.module_table.specs.declared.goal_arg.GoalArg.{GoalArg}
 use Rattle.module_table.specs.declared.goal_arg.GoalArg.TheVariants.{Plain, Goal, Caret, Grammar}
 use Rattle.module_table.specs.declared.load.LoadKind.TheVariants.{UseAll}
 use Rattle.module_table.specs.Defined.{clauses_for}
-use Rattle.module_table.specs.Said.{Said, Part, declares, loads, defines, takes, goal}
+use Rattle.module_table.specs.declared.mark.Property.{Property}
+use Rattle.module_table.specs.declared.mark.Property.TheVariants.{Dynamic, Multifile}
+use Rattle.module_table.specs.Said.{Said, Part, declares, loads, defines, takes, marks, goal}
 use Rattle.module_table.specs.Facts.{file_said}
 
 abbrev at : ℕ → Span
@@ -37,11 +39,11 @@ says trees = file_said (codes "d/f.pl") trees
 abbrev refusal : Cause → ℕ → Said
 refusal cause from = Err (record { cause = cause; offset = from })
 
-abbrev bare_in : List ℕ → List ℕ → ℕ → Part
-bare_in owner name arity = defines (record { module_ = owner; name = name; arity = arity; clause = None })
+abbrev marked_in : Property → List ℕ → List ℕ → ℕ → Part
+marked_in property owner name arity = marks (record { property = property; module_ = owner; name = name; arity = arity })
 
-abbrev bare : List ℕ → ℕ → Part
-bare name arity = bare_in (codes "user") name arity
+abbrev is_dynamic : List ℕ → ℕ → Part
+is_dynamic name arity = marked_in Dynamic (codes "user") name arity
 
 -- `p.`
 fact : says (p ∷ []) ≡ Ok (defines (record { module_ = codes "user"; name = codes "p"; arity = 0; clause = Some p }) ∷ [])
@@ -74,7 +76,7 @@ module_late = refl
 
 -- `:- dynamic p/1, q//2.`
 dynamic_two : says (directive (one (codes "dynamic") (two (codes ",") (two (codes "/") p (number 1 13) 11) (two (codes "//") (atom (codes "q") (at 16)) (number 2 19) 16) 11) 3) ∷ [])
-    ≡ Ok (bare (codes "p") 1 ∷ bare (codes "q") 4 ∷ [])
+    ≡ Ok (is_dynamic (codes "p") 1 ∷ is_dynamic (codes "q") 4 ∷ [])
 dynamic_two = refl
 
 -- `:- dynamic p.`
@@ -160,7 +162,7 @@ list_in_m = two (codes ":") (atom (codes "m") (at 26)) (listed (more (two (codes
     (more (two (codes "//") (two (codes ":") (atom (codes "n") (at 34)) (atom (codes "b") (at 36)) 34) (number 1 39) 34) none)) (at 28)) 26
 
 multifile_elsewhere : says (directive (one (codes "multifile") (two (codes ",") hook_indicator list_in_m 13) 3) ∷ [])
-    ≡ Ok (bare_in (codes "user") (codes "hook") 1 ∷ bare_in (codes "m") (codes "a") 0 ∷ bare_in (codes "n") (codes "b") 3 ∷ [])
+    ≡ Ok (marked_in Multifile (codes "user") (codes "hook") 1 ∷ marked_in Multifile (codes "m") (codes "a") 0 ∷ marked_in Multifile (codes "n") (codes "b") 3 ∷ [])
 multifile_elsewhere = refl
 
 -- `:- dynamic a:b:c/1.` is `(a:(b:c))/1`

@@ -7,7 +7,7 @@ use Rattle.prolog_terms.specs.Tree.{Tree}
 use Rattle.module_table.specs.declared.indicator.Indicator.{Indicator}
 use Rattle.module_table.specs.Defined.{Predicate}
 use Rattle.module_table.specs.Metas.{Declaration}
-use Rattle.module_table.specs.Said.{Part, Declares, Loads, declares, loads, defines, goal, takes}
+use Rattle.module_table.specs.Said.{Part, Declares, Loads, declares, loads, defines, goal, takes, marks}
 use Rattle.module_table.specs.Kinds.{declared_part, load_part, goal_part, first_of, IsModule, takes_part}
 use Rattle.module_table.specs.Facts.{Facts, AreFacts, module_of, is_clause_of}
 use Rattle.module_table.proofs.ClausesOf.{clauses_are}
@@ -35,6 +35,7 @@ module _ (k : HandsDown) where
   declared_one (loads own) x is kept = let both : None ≡ Some x = is in absurd (cc)
   declared_one (defines own) x is kept = let both : None ≡ Some x = is in absurd (cc)
   declared_one (takes own) x is kept = let both : None ≡ Some x = is in absurd (cc)
+  declared_one (marks own) x is kept = let both : None ≡ Some x = is in absurd (cc)
   declared_one (goal own) x is kept = let both : None ≡ Some x = is in absurd (cc)
 
   load_one : (part : Part) (x : Loads) → load_part part ≡ Some x → IsKept k part → LoadKept x
@@ -42,6 +43,7 @@ module _ (k : HandsDown) where
   load_one (loads own) x is kept = let same : own ≡ x = cc in subst LoadKept same kept
   load_one (defines own) x is kept = let both : None ≡ Some x = is in absurd (cc)
   load_one (takes own) x is kept = let both : None ≡ Some x = is in absurd (cc)
+  load_one (marks own) x is kept = let both : None ≡ Some x = is in absurd (cc)
   load_one (goal own) x is kept = let both : None ≡ Some x = is in absurd (cc)
 
   abbrev DeclarationKept : Declaration → Type 0
@@ -52,6 +54,7 @@ module _ (k : HandsDown) where
   takes_one (loads own) x is kept = let both : None ≡ Some x = is in absurd (cc)
   takes_one (defines own) x is kept = let both : None ≡ Some x = is in absurd (cc)
   takes_one (takes own) x is kept = let same : own ≡ x = cc in subst DeclarationKept same kept
+  takes_one (marks own) x is kept = let both : None ≡ Some x = is in absurd (cc)
   takes_one (goal own) x is kept = let both : None ≡ Some x = is in absurd (cc)
 
   goal_one : (part : Part) (x : Tree) → goal_part part ≡ Some x → IsKept k part → k.Good x
@@ -59,6 +62,7 @@ module _ (k : HandsDown) where
   goal_one (loads own) x is kept = let both : None ≡ Some x = is in absurd (cc)
   goal_one (defines own) x is kept = let both : None ≡ Some x = is in absurd (cc)
   goal_one (takes own) x is kept = let both : None ≡ Some x = is in absurd (cc)
+  goal_one (marks own) x is kept = let both : None ≡ Some x = is in absurd (cc)
   goal_one (goal own) x is kept = let same : own ≡ x = cc in subst k.Good same kept
 
   module_at : (all : List Declares) (name : List ℕ) (is_declared : Bool) (from : ℕ) (exports : List Indicator) → All DeclaredKept all

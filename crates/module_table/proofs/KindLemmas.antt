@@ -8,8 +8,9 @@ use Rattle.prolog_terms.specs.Tree.{Tree}
 use Rattle.prolog_terms.specs.declared.term.Term.{Term}
 use Rattle.prolog_terms.specs.Terms.{tree_in, IsOf}
 use Rattle.module_table.specs.Metas.{Declaration}
-use Rattle.module_table.specs.Said.{Said, Part, Refusal, Declares, declares, loads, defines, takes, goal, more, in_turn}
-use Rattle.module_table.specs.Kinds.{declared_part, load_part, defined_part, takes_part, goal_part, first_of, first_module_seen, ByKind, none_said, with_part, with_parts, with_said}
+use Rattle.module_table.specs.Marks.{defined_bare}
+use Rattle.module_table.specs.Said.{Said, Part, Refusal, Declares, declares, loads, defines, takes, marks, goal, more, in_turn}
+use Rattle.module_table.specs.Kinds.{declared_part, load_part, defined_part, takes_part, marks_part, goal_part, first_of, first_module_seen, ByKind, none_said, with_part, with_parts, with_said}
 use Rattle.module_table.specs.Facts.{goal_trees}
 use Rattle.module_table.specs.Kept.{see_kinds, AreSaid, IsAdded}
 
@@ -38,6 +39,7 @@ by_kind parts = record {
   loads = filter_map load_part parts;
   definitions = filter_map defined_part parts;
   takes = filter_map takes_part parts;
+  marks = filter_map marks_part parts;
   goals = filter_map goal_part parts;
 }
 
@@ -48,40 +50,54 @@ one_more before (declares own) =
     let loads_kept = sym (kept load_part before part refl) in
     let definitions = sym (kept defined_part before part refl) in
     let takes_kept = sym (kept takes_part before part refl) in
+    let marks_kept = sym (kept marks_part before part refl) in
     let goals = sym (kept goal_part before part refl) in
-    λ i. record { declared = declared i; loads = loads_kept i; definitions = definitions i; takes = takes_kept i; goals = goals i }
+    λ i. record { declared = declared i; loads = loads_kept i; definitions = definitions i; takes = takes_kept i; marks = marks_kept i; goals = goals i }
 one_more before (loads own) =
     let part = loads own in
     let declared = ap first_of (sym (kept declared_part before part refl)) in
     let loads_more = sym (added load_part before part own refl) in
     let definitions = sym (kept defined_part before part refl) in
     let takes_kept = sym (kept takes_part before part refl) in
+    let marks_kept = sym (kept marks_part before part refl) in
     let goals = sym (kept goal_part before part refl) in
-    λ i. record { declared = declared i; loads = loads_more i; definitions = definitions i; takes = takes_kept i; goals = goals i }
+    λ i. record { declared = declared i; loads = loads_more i; definitions = definitions i; takes = takes_kept i; marks = marks_kept i; goals = goals i }
 one_more before (defines own) =
     let part = defines own in
     let declared = ap first_of (sym (kept declared_part before part refl)) in
     let loads_kept = sym (kept load_part before part refl) in
     let definitions = sym (added defined_part before part own refl) in
     let takes_kept = sym (kept takes_part before part refl) in
+    let marks_kept = sym (kept marks_part before part refl) in
     let goals = sym (kept goal_part before part refl) in
-    λ i. record { declared = declared i; loads = loads_kept i; definitions = definitions i; takes = takes_kept i; goals = goals i }
+    λ i. record { declared = declared i; loads = loads_kept i; definitions = definitions i; takes = takes_kept i; marks = marks_kept i; goals = goals i }
 one_more before (takes own) =
     let part = takes own in
     let declared = ap first_of (sym (kept declared_part before part refl)) in
     let loads_kept = sym (kept load_part before part refl) in
     let definitions = sym (kept defined_part before part refl) in
     let takes_more = sym (added takes_part before part own refl) in
+    let marks_kept = sym (kept marks_part before part refl) in
     let goals = sym (kept goal_part before part refl) in
-    λ i. record { declared = declared i; loads = loads_kept i; definitions = definitions i; takes = takes_more i; goals = goals i }
+    λ i. record { declared = declared i; loads = loads_kept i; definitions = definitions i; takes = takes_more i; marks = marks_kept i; goals = goals i }
+one_more before (marks own) =
+    let part = marks own in
+    let declared = ap first_of (sym (kept declared_part before part refl)) in
+    let loads_kept = sym (kept load_part before part refl) in
+    let definitions = sym (added defined_part before part (defined_bare own) refl) in
+    let takes_kept = sym (kept takes_part before part refl) in
+    let marks_more = sym (added marks_part before part own refl) in
+    let goals = sym (kept goal_part before part refl) in
+    λ i. record { declared = declared i; loads = loads_kept i; definitions = definitions i; takes = takes_kept i; marks = marks_more i; goals = goals i }
 one_more before (goal own) =
     let part = goal own in
     let declared = ap first_of (sym (kept declared_part before part refl)) in
     let loads_kept = sym (kept load_part before part refl) in
     let definitions = sym (kept defined_part before part refl) in
     let takes_kept = sym (kept takes_part before part refl) in
+    let marks_kept = sym (kept marks_part before part refl) in
     let goals = sym (added goal_part before part own refl) in
-    λ i. record { declared = declared i; loads = loads_kept i; definitions = definitions i; takes = takes_kept i; goals = goals i }
+    λ i. record { declared = declared i; loads = loads_kept i; definitions = definitions i; takes = takes_kept i; marks = marks_kept i; goals = goals i }
 
 some_more : (before parts : List Part) → with_parts (by_kind before) parts ≡ by_kind (before ++ parts)
 some_more before [] = ap by_kind (sym (append-nil before))
@@ -108,6 +124,7 @@ are_said names (Ok parts) kinds closed is =
         loads = ap (λ k. k.loads) same;
         definitions = ap (λ k. k.definitions) same;
         takes = ap (λ k. k.takes) same;
+        marks = ap (λ k. k.marks) same;
         goals = goals ∙ ap (λ k. k.goals) same;
       };
     }

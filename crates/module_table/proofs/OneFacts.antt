@@ -26,6 +26,7 @@ one_of user parts f g a b =
     let loads = a.loads ∙ sym b.loads in
     let defined = one_grouping _ f.defined g.defined a.defined b.defined in
     let metas = a.metas ∙ sym b.metas in
+    let marks = a.marks ∙ sym b.marks in
     let goals = a.goals ∙ sym b.goals in
     λ i. record {
       file = file i;
@@ -36,6 +37,7 @@ one_of user parts f g a b =
       loads = loads i;
       defined = defined i;
       metas = metas i;
+      marks = marks i;
       goals = goals i;
     }
 

@@ -22,6 +22,8 @@ use Rattle.module_table.specs.Heads.{is_among, Owned}
 use Rattle.module_table.specs.Indicators.{listed_indicators}
 use Rattle.module_table.specs.declared.dynamic.Standing.{Standing}
 use Rattle.module_table.specs.declared.dynamic.Standing.TheVariants.{Whole, Joint, Item}
+use Rattle.module_table.specs.declared.mark.Property.{Property}
+use Rattle.module_table.specs.declared.mark.Property.TheVariants.{Dynamic, Multifile}
 use Rattle.module_table.specs.Dynamic.{owned, bare_said, is_joint, is_whole, dynamic_at, each_dynamic}
 use Rattle.module_table.specs.Loading.{is_system, file_of, load_said, loads_said, use_all_said}
 use Rattle.module_table.specs.Directives.{Home, some_said, exports, declared_said, module_name, module_said, silent_names, outside_names, one_said, two_said, three_said, shallow_said, directive_said}
@@ -70,40 +72,40 @@ each_counted f says one (tree ∷ trees) =
 
 -- what `dynamic` and `multifile` define
 
-bare_few : (owner : List ℕ) (tree : Tree) → DefinesAtMost 1 (bare_said owner tree)
-bare_few owner tree = by_owned (owned owner tree) refl
+bare_few : (property : Property) (owner : List ℕ) (tree : Tree) → DefinesAtMost 1 (bare_said property owner tree)
+bare_few property owner tree = by_owned (owned owner tree) refl
   where
-    by_owned : (found : Option Owned) → owned owner tree ≡ found → DefinesAtMost 1 (bare_said owner tree)
+    by_owned : (found : Option Owned) → owned owner tree ≡ found → DefinesAtMost 1 (bare_said property owner tree)
     by_owned (Some own) is = rw (is, bare_said) (omega arith)
     by_owned None is = rw (is, bare_said) tt
 
-by_inner : (found : Option (List ℕ)) (right tree : Tree) → ((inner : List ℕ) → DefinesAtMost (weight tree + 1) (dynamic_at Whole inner right))
-    → DefinesAtMost (weight tree + 1) (elim found [ Some inner ↦ dynamic_at Whole inner right | None ↦ refused BadIndicator tree ])
-by_inner (Some inner) right tree all = all inner
-by_inner None right tree all = tt
+by_inner : (property : Property) (found : Option (List ℕ)) (right tree : Tree) → ((inner : List ℕ) → DefinesAtMost (weight tree + 1) (dynamic_at property Whole inner right))
+    → DefinesAtMost (weight tree + 1) (elim found [ Some inner ↦ dynamic_at property Whole inner right | None ↦ refused BadIndicator tree ])
+by_inner property (Some inner) right tree all = all inner
+by_inner property None right tree all = tt
 
 mutual
-  dynamic_few : (at : Standing) (owner : List ℕ) (tree : Tree) → DefinesAtMost (weight tree + 1) (dynamic_at at owner tree)
-  dynamic_few at owner (compound own (with_more left (with_more right none)) form span) =
+  dynamic_few : (property : Property) (at : Standing) (owner : List ℕ) (tree : Tree) → DefinesAtMost (weight tree + 1) (dynamic_at property at owner tree)
+  dynamic_few property at owner (compound own (with_more left (with_more right none)) form span) =
       let tree = compound own (with_more left (with_more right none)) form span in
       by_test (weight tree + 1) (is_joint at && bytes_eq own (codes ",")) _ _
-      (more_allowed (weight left + 1 + (weight right + 1)) (weight tree + 1) (in_turn (dynamic_at Joint owner left) (dynamic_at Joint owner right)) (omega arith)
-      (turns (weight left + 1) (weight right + 1) (dynamic_at Joint owner left) (dynamic_at Joint owner right) (dynamic_few Joint owner left) (dynamic_few Joint owner right)))
+      (more_allowed (weight left + 1 + (weight right + 1)) (weight tree + 1) (in_turn (dynamic_at property Joint owner left) (dynamic_at property Joint owner right)) (omega arith)
+      (turns (weight left + 1) (weight right + 1) (dynamic_at property Joint owner left) (dynamic_at property Joint owner right) (dynamic_few property Joint owner left) (dynamic_few property Joint owner right)))
       (by_test (weight tree + 1) (bytes_eq own (codes ":")) _ _
-      (by_inner (atom_name left) right tree (λ inner. more_allowed (weight right + 1) (weight tree + 1) (dynamic_at Whole inner right) (omega arith) (dynamic_few Whole inner right)))
-      (more_allowed 1 (weight tree + 1) (bare_said owner tree) (omega arith) (bare_few owner tree)))
-  dynamic_few at owner (listed items span) =
+      (by_inner property (atom_name left) right tree (λ inner. more_allowed (weight right + 1) (weight tree + 1) (dynamic_at property Whole inner right) (omega arith) (dynamic_few property Whole inner right)))
+      (more_allowed 1 (weight tree + 1) (bare_said property owner tree) (omega arith) (bare_few property owner tree)))
+  dynamic_few property at owner (listed items span) =
       let tree = listed items span in
-      by_test (weight tree + 1) (is_whole at) _ _ (more_allowed (weights items) (weight tree + 1) (each_dynamic owner items) (omega arith) (each_dynamic_few owner items)) tt
-  dynamic_few at owner (atom own span) = by_test (weight (atom own span) + 1) (is_whole at && bytes_eq own (codes "[]")) _ _ (omega arith) tt
-  dynamic_few at owner (paren inner span) = more_allowed (weight inner + 1) (weight (paren inner span) + 1) (dynamic_at at owner inner) (omega arith) (dynamic_few at owner inner)
-  dynamic_few at owner tree = tt
+      by_test (weight tree + 1) (is_whole at) _ _ (more_allowed (weights items) (weight tree + 1) (each_dynamic property owner items) (omega arith) (each_dynamic_few property owner items)) tt
+  dynamic_few property at owner (atom own span) = by_test (weight (atom own span) + 1) (is_whole at && bytes_eq own (codes "[]")) _ _ (omega arith) tt
+  dynamic_few property at owner (paren inner span) = more_allowed (weight inner + 1) (weight (paren inner span) + 1) (dynamic_at property at owner inner) (omega arith) (dynamic_few property at owner inner)
+  dynamic_few property at owner tree = tt
 
-  each_dynamic_few : (owner : List ℕ) (trees : Trees) → DefinesAtMost (weights trees) (each_dynamic owner trees)
-  each_dynamic_few owner none = omega arith
-  each_dynamic_few owner (with_more tree trees) =
-      more_allowed (weight tree + 1 + weights trees) (weights (with_more tree trees)) (in_turn (dynamic_at Item owner tree) (each_dynamic owner trees)) (omega arith)
-      (turns (weight tree + 1) (weights trees) (dynamic_at Item owner tree) (each_dynamic owner trees) (dynamic_few Item owner tree) (each_dynamic_few owner trees))
+  each_dynamic_few : (property : Property) (owner : List ℕ) (trees : Trees) → DefinesAtMost (weights trees) (each_dynamic property owner trees)
+  each_dynamic_few property owner none = omega arith
+  each_dynamic_few property owner (with_more tree trees) =
+      more_allowed (weight tree + 1 + weights trees) (weights (with_more tree trees)) (in_turn (dynamic_at property Item owner tree) (each_dynamic property owner trees)) (omega arith)
+      (turns (weight tree + 1) (weights trees) (dynamic_at property Item owner tree) (each_dynamic property owner trees) (dynamic_few property Item owner tree) (each_dynamic_few property owner trees))
 
 -- declarations of goal arguments
 
@@ -189,9 +191,10 @@ module _ (user : Home) where
       let n = weight argument + 1 in
       by_test n (bytes_eq own (codes "use_module")) _ _ (at_most n (use_all_said user.file argument) (use_all_none argument))
       (by_test n (is_among (codes "ensure_loaded" ∷ codes "consult" ∷ []) own) _ _ (at_most n (load_said user.file Ensure [] argument) (load_none Ensure [] argument))
-      (by_test n (is_among (codes "dynamic" ∷ codes "multifile" ∷ []) own) _ _ (dynamic_few Whole user.module_ argument)
+      (by_test n (bytes_eq own (codes "dynamic")) _ _ (dynamic_few Dynamic Whole user.module_ argument)
+      (by_test n (bytes_eq own (codes "multifile")) _ _ (dynamic_few Multifile Whole user.module_ argument)
       (by_test n (bytes_eq own (codes "meta_predicate")) _ _ (omega (arith, all_counted (takes_of user.module_ argument), takes_few user.module_ argument))
-      (by_test n (is_among silent_names own) _ _ (omega arith) (by_test n (is_among outside_names own) _ _ tt (omega arith))))))
+      (by_test n (is_among silent_names own) _ _ (omega arith) (by_test n (is_among outside_names own) _ _ tt (omega arith)))))))
 
   two_none : (first : Bool) (own : List ℕ) (left right tree : Tree) → DefinesAtMost 0 (two_said user first own left right tree)
   two_none first own left right tree =

@@ -15,12 +15,14 @@ use Rattle.module_table.specs.declared.indicator.Indicator.{Indicator}
 use Rattle.module_table.specs.declared.load.LoadKind.{LoadKind}
 use Rattle.module_table.specs.declared.load.LoadKind.TheVariants.{UseAll, UseSome, Ensure}
 use Rattle.module_table.specs.Metas.{Declaration, goal_arg, takes_of, all_takes, taking}
-use Rattle.module_table.specs.Said.{Said, Part, declares, loads, defines, goal, Refusal, refused, in_turn, each_said, nothing, only, takes}
+use Rattle.module_table.specs.Said.{Said, Part, declares, loads, defines, goal, Refusal, refused, in_turn, each_said, nothing, only, takes, marks}
 use Rattle.module_table.specs.Heads.{is_among, control_names, headless_names, named_head, head_named, plain_head, within, behind_modules, Owned, owned_by, head, grammar_head}
 use Rattle.module_table.specs.Indicators.{indicator_of, indicator_with, indicator_from, arguments_added, arity_of, indicator, one_indicator, indicators, list_of, listed_indicators}
 use Rattle.module_table.specs.declared.dynamic.Standing.{Standing}
 use Rattle.module_table.specs.declared.dynamic.Standing.TheVariants.{Whole, Joint, Item}
-use Rattle.module_table.specs.Dynamic.{owned, defined_bare, bare_said, is_joint, is_whole, dynamic_at, each_dynamic, dynamic_said}
+use Rattle.module_table.specs.declared.mark.Property.{Property}
+use Rattle.module_table.specs.declared.mark.Property.TheVariants.{Dynamic, Multifile}
+use Rattle.module_table.specs.Dynamic.{owned, marked, bare_said, is_joint, is_whole, dynamic_at, each_dynamic, dynamic_said}
 use Rattle.module_table.specs.Loading.{is_system, file_of, load_said, loads_said, use_all_said}
 use Rattle.module_table.specs.Directives.{Home, home, some_said, use_some_said, is_operator, item_exports, exports_of, exports, declared_said, module_name, module_said, silent_names, outside_names, one_said, two_said, three_said, shallow_said, directive_said, meta_said}
 use Rattle.module_table.specs.Facts.{with_added, head_with, clause_head, headed, clause_said, module_of, trees_said, file_said}
@@ -56,6 +58,7 @@ module _ (k : HandsDown) where
   IsKept (loads own) = k.At own.from × All IsAt own.items
   IsKept (defines own) = Unit {0}
   IsKept (takes own) = k.At own.from × k.Many (length own.args)
+  IsKept (marks own) = Unit {0}
   IsKept (goal tree) = k.Good tree
 
   abbrev pub Kept : Said → Type 0
@@ -196,41 +199,41 @@ module _ (k : HandsDown) where
 
   -- directives
 
-  bare_kept : (owner : List ℕ) (tree : Tree) → k.Good tree → Kept (bare_said owner tree)
-  bare_kept owner tree good = by_owned (owned owner tree) refl
+  bare_kept : (property : Property) (owner : List ℕ) (tree : Tree) → k.Good tree → Kept (bare_said property owner tree)
+  bare_kept property owner tree good = by_owned (owned owner tree) refl
     where
-      by_owned : (found : Option Owned) → owned owner tree ≡ found → Kept (bare_said owner tree)
-      by_owned (Some own) is = rw (is, bare_said) (only_kept (defined_bare own) tt)
+      by_owned : (found : Option Owned) → owned owner tree ≡ found → Kept (bare_said property owner tree)
+      by_owned (Some own) is = rw (is, bare_said) (only_kept (marked property own) tt)
       by_owned None is = rw (is, bare_said) (start_good k tree good)
 
-  inner_kept : (found : Option (List ℕ)) (right tree : Tree) → k.Good tree → ((inner : List ℕ) → Kept (dynamic_at Whole inner right))
-      → Kept (elim found [ Some inner ↦ dynamic_at Whole inner right | None ↦ refused BadIndicator tree ])
-  inner_kept (Some inner) right tree good all = all inner
-  inner_kept None right tree good all = start_good k tree good
+  inner_kept : (property : Property) (found : Option (List ℕ)) (right tree : Tree) → k.Good tree → ((inner : List ℕ) → Kept (dynamic_at property Whole inner right))
+      → Kept (elim found [ Some inner ↦ dynamic_at property Whole inner right | None ↦ refused BadIndicator tree ])
+  inner_kept property (Some inner) right tree good all = all inner
+  inner_kept property None right tree good all = start_good k tree good
 
   mutual
-    dynamic_kept : (at : Standing) (owner : List ℕ) (tree : Tree) → k.Good tree → Kept (dynamic_at at owner tree)
-    dynamic_kept at owner (compound own (with_more left (with_more right none)) form span) good =
+    dynamic_kept : (property : Property) (at : Standing) (owner : List ℕ) (tree : Tree) → k.Good tree → Kept (dynamic_at property at owner tree)
+    dynamic_kept property at owner (compound own (with_more left (with_more right none)) form span) good =
         let tree = compound own (with_more left (with_more right none)) form span in
         let one = first_good k own left (with_more right none) form span good in
         let other = second_good k own left right none form span good in
-        by_test_said (is_joint at && bytes_eq own (codes ",")) (in_turn (dynamic_at Joint owner left) (dynamic_at Joint owner right)) _
-        (turns IsKept (dynamic_at Joint owner left) (dynamic_at Joint owner right) (dynamic_kept Joint owner left one) (dynamic_kept Joint owner right other))
-        (by_test_said (bytes_eq own (codes ":")) _ (bare_said owner tree)
-        (inner_kept (atom_name left) right tree good (λ inner. dynamic_kept Whole inner right other)) (bare_kept owner tree good))
-    dynamic_kept at owner (listed items span) good =
-        by_test_said (is_whole at) (each_dynamic owner items) (refused BadIndicator (listed items span)) (each_dynamic_kept owner items (k.items items span good))
+        by_test_said (is_joint at && bytes_eq own (codes ",")) (in_turn (dynamic_at property Joint owner left) (dynamic_at property Joint owner right)) _
+        (turns IsKept (dynamic_at property Joint owner left) (dynamic_at property Joint owner right) (dynamic_kept property Joint owner left one) (dynamic_kept property Joint owner right other))
+        (by_test_said (bytes_eq own (codes ":")) _ (bare_said property owner tree)
+        (inner_kept property (atom_name left) right tree good (λ inner. dynamic_kept property Whole inner right other)) (bare_kept property owner tree good))
+    dynamic_kept property at owner (listed items span) good =
+        by_test_said (is_whole at) (each_dynamic property owner items) (refused BadIndicator (listed items span)) (each_dynamic_kept property owner items (k.items items span good))
         (start_good k (listed items span) good)
-    dynamic_kept at owner (atom own span) good =
+    dynamic_kept property at owner (atom own span) good =
         by_test_said (is_whole at && bytes_eq own (codes "[]")) nothing (refused BadIndicator (atom own span)) no_parts (start_good k (atom own span) good)
-    dynamic_kept at owner (paren inner span) good = dynamic_kept at owner inner (k.inner inner span good)
-    dynamic_kept at owner tree good = start_good k tree good
+    dynamic_kept property at owner (paren inner span) good = dynamic_kept property at owner inner (k.inner inner span good)
+    dynamic_kept property at owner tree good = start_good k tree good
 
-    each_dynamic_kept : (owner : List ℕ) (trees : Trees) → All k.Good (trees_in trees) → Kept (each_dynamic owner trees)
-    each_dynamic_kept owner none all = no_parts
-    each_dynamic_kept owner (with_more tree trees) all =
-        turns IsKept (dynamic_at Item owner tree) (each_dynamic owner trees) (dynamic_kept Item owner tree (all 0 tree (omega arith)))
-        (each_dynamic_kept owner trees (λ i x below. all (suc i) x (omega (arith, below))))
+    each_dynamic_kept : (property : Property) (owner : List ℕ) (trees : Trees) → All k.Good (trees_in trees) → Kept (each_dynamic property owner trees)
+    each_dynamic_kept property owner none all = no_parts
+    each_dynamic_kept property owner (with_more tree trees) all =
+        turns IsKept (dynamic_at property Item owner tree) (each_dynamic property owner trees) (dynamic_kept property Item owner tree (all 0 tree (omega arith)))
+        (each_dynamic_kept property owner trees (λ i x below. all (suc i) x (omega (arith, below))))
 
   some_kept : (user : List ℕ) (file : Tree) (told : Result (List Indicator) Refusal) → k.Good file → Listed told → Kept (some_said user file told)
   some_kept user file (Ok items) good kept = load_kept user UseSome items file kept good
@@ -312,10 +315,11 @@ module _ (k : HandsDown) where
   one_said_kept user name argument tree inner good =
       by_test_said (bytes_eq name (codes "use_module")) (use_all_said user.file argument) _ (use_all_kept user.file argument inner)
       (by_test_said (is_among (codes "ensure_loaded" ∷ codes "consult" ∷ []) name) (load_said user.file Ensure [] argument) _ (load_kept user.file Ensure [] argument (All-nil IsAt) inner)
-      (by_test_said (is_among (codes "dynamic" ∷ codes "multifile" ∷ []) name) (dynamic_said user.module_ argument) _ (dynamic_kept Whole user.module_ argument inner)
+      (by_test_said (bytes_eq name (codes "dynamic")) (dynamic_said Dynamic user.module_ argument) _ (dynamic_kept Dynamic Whole user.module_ argument inner)
+      (by_test_said (bytes_eq name (codes "multifile")) (dynamic_said Multifile user.module_ argument) _ (dynamic_kept Multifile Whole user.module_ argument inner)
       (by_test_said (bytes_eq name (codes "meta_predicate")) (meta_said user.module_ argument) _ (all_taken (takes_of user.module_ argument) (takes_kept user.module_ argument inner))
       (by_test_said (is_among silent_names name) nothing _ no_parts
-      (by_test_said (is_among outside_names name) (refused NotInProfile tree) (only (goal tree)) (start_good k tree good) (only_kept (goal tree) good))))))
+      (by_test_said (is_among outside_names name) (refused NotInProfile tree) (only (goal tree)) (start_good k tree good) (only_kept (goal tree) good)))))))
 
   two_said_kept : (user : Home) (first : Bool) (name : List ℕ) (left right tree : Tree) → k.Good left → k.Good right → k.Good tree
       → Kept (two_said user first name left right tree)

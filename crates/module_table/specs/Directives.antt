@@ -7,6 +7,7 @@ use Rattle.clause_text.specs.Items.{item_of}
 use Rattle.clause_text.specs.declared.cause.Cause.TheVariants.{LateModule, BadIndicator, BadSpec, NotInProfile}
 use Rattle.module_table.specs.declared.indicator.Indicator.{Indicator}
 use Rattle.module_table.specs.declared.load.LoadKind.TheVariants.{UseSome, Ensure}
+use Rattle.module_table.specs.declared.mark.Property.TheVariants.{Dynamic, Multifile}
 use Rattle.module_table.specs.Metas.{takes_of}
 use Rattle.module_table.specs.Said.{Said, nothing, only, goal, declares, refused, Refusal, in_turn, each_said, takes}
 use Rattle.module_table.specs.Heads.{is_among}
@@ -74,7 +75,8 @@ abbrev pub one_said : Home → List ℕ → Tree → Tree → Said
 one_said user name argument tree =
     if bytes_eq name (codes "use_module") then use_all_said user.file argument
     else if is_among (codes "ensure_loaded" ∷ codes "consult" ∷ []) name then load_said user.file Ensure [] argument
-    else if is_among (codes "dynamic" ∷ codes "multifile" ∷ []) name then dynamic_said user.module_ argument
+    else if bytes_eq name (codes "dynamic") then dynamic_said Dynamic user.module_ argument
+    else if bytes_eq name (codes "multifile") then dynamic_said Multifile user.module_ argument
     else if bytes_eq name (codes "meta_predicate") then meta_said user.module_ argument
     else if is_among silent_names name then nothing
     else if is_among outside_names name then refused NotInProfile tree

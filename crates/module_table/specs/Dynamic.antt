@@ -1,4 +1,4 @@
--- What `dynamic` and `multifile` define: predicates of the module of the file, or of a module that is named.
+-- What `dynamic` and `multifile` declare, and so define: predicates of the module of the file, or of a module that is named.
 use Rattle.std.specs.Prelude.{ℕ, List, Option, Some, None, Bool, true, false, ◌&&◌, if◌then◌else◌, codes}
 use Rattle.std.specs.Str.{bytes_eq}
 use Rattle.prolog_terms.specs.Tree.{Tree, Trees, atom, compound, listed, paren, more, none}
@@ -6,8 +6,9 @@ use Rattle.prolog_terms.specs.Views.{Binary, binary, sides_of, atom_name}
 use Rattle.clause_text.specs.declared.cause.Cause.TheVariants.{BadIndicator}
 use Rattle.module_table.specs.declared.dynamic.Standing.{Standing}
 use Rattle.module_table.specs.declared.dynamic.Standing.TheVariants.{Whole, Joint, Item}
+use Rattle.module_table.specs.declared.mark.Property.{Property}
 use Rattle.module_table.specs.Heads.{Owned}
-use Rattle.module_table.specs.Said.{Said, Part, nothing, only, defines, refused, in_turn}
+use Rattle.module_table.specs.Said.{Said, Part, nothing, only, marks, refused, in_turn}
 use Rattle.module_table.specs.Indicators.{arity_of, arguments_added, list_of}
 
 -- a name in a module
@@ -43,12 +44,12 @@ owned_from owner None = None
 abbrev pub owned : List ℕ → Tree → Option Owned
 owned owner tree = owned_from owner (binary tree)
 
--- a predicate is defined, with no clause
-abbrev pub defined_bare : Owned → Part
-defined_bare own = defines (record { module_ = own.module_; name = own.name; arity = own.arity; clause = None })
+-- the predicate is declared to have the property
+abbrev pub marked : Property → Owned → Part
+marked property own = marks (record { property = property; module_ = own.module_; name = own.name; arity = own.arity })
 
-abbrev pub bare_said : List ℕ → Tree → Said
-bare_said owner tree = elim (owned owner tree) [ Some own ↦ only (defined_bare own) | None ↦ refused BadIndicator tree ]
+abbrev pub bare_said : Property → List ℕ → Tree → Said
+bare_said property owner tree = elim (owned owner tree) [ Some own ↦ only (marked property own) | None ↦ refused BadIndicator tree ]
 
 -- all that a directive or a module declares may be a list
 abbrev pub is_whole : Standing → Bool
@@ -69,24 +70,24 @@ joint_sides at tree = if is_joint at then sides_of (codes ",") tree else None
 abbrev pub whole_items : Standing → Tree → Option (List Tree)
 whole_items at tree = if is_whole at then list_of tree else None
 
--- what a term says that stands so in a module: items that commas join, a list of items, `M:I` with an item or such a list, or an indicator
+-- what a term declares that stands so in a module: items that commas join, a list of items, `M:I` with an item or such a list, or an indicator
 abbrev mutual
-  pub dynamic_at : Standing → List ℕ → Tree → Said
-  dynamic_at at owner (compound name (more left (more right none)) form span) =
-      if is_joint at && bytes_eq name (codes ",") then in_turn (dynamic_at Joint owner left) (dynamic_at Joint owner right)
+  pub dynamic_at : Property → Standing → List ℕ → Tree → Said
+  dynamic_at property at owner (compound name (more left (more right none)) form span) =
+      if is_joint at && bytes_eq name (codes ",") then in_turn (dynamic_at property Joint owner left) (dynamic_at property Joint owner right)
       else if bytes_eq name (codes ":") then
-      elim (atom_name left) [ Some own ↦ dynamic_at Whole own right | None ↦ refused BadIndicator (compound name (more left (more right none)) form span) ]
-      else bare_said owner (compound name (more left (more right none)) form span)
-  dynamic_at at owner (listed items span) = if is_whole at then each_dynamic owner items else refused BadIndicator (listed items span)
-  dynamic_at at owner (atom name span) = if is_whole at && bytes_eq name (codes "[]") then nothing else refused BadIndicator (atom name span)
-  dynamic_at at owner (paren inner span) = dynamic_at at owner inner
-  dynamic_at at owner tree = refused BadIndicator tree
+      elim (atom_name left) [ Some own ↦ dynamic_at property Whole own right | None ↦ refused BadIndicator (compound name (more left (more right none)) form span) ]
+      else bare_said property owner (compound name (more left (more right none)) form span)
+  dynamic_at property at owner (listed items span) = if is_whole at then each_dynamic property owner items else refused BadIndicator (listed items span)
+  dynamic_at property at owner (atom name span) = if is_whole at && bytes_eq name (codes "[]") then nothing else refused BadIndicator (atom name span)
+  dynamic_at property at owner (paren inner span) = dynamic_at property at owner inner
+  dynamic_at property at owner tree = refused BadIndicator tree
 
   -- the items of a list, in order
-  pub each_dynamic : List ℕ → Trees → Said
-  each_dynamic owner none = nothing
-  each_dynamic owner (more tree trees) = in_turn (dynamic_at Item owner tree) (each_dynamic owner trees)
+  pub each_dynamic : Property → List ℕ → Trees → Said
+  each_dynamic property owner none = nothing
+  each_dynamic property owner (more tree trees) = in_turn (dynamic_at property Item owner tree) (each_dynamic property owner trees)
 
--- what `dynamic` and `multifile` say in a file of the module
-abbrev pub dynamic_said : List ℕ → Tree → Said
-dynamic_said owner tree = dynamic_at Whole owner tree
+-- what the directive of the property says in a file of the module
+abbrev pub dynamic_said : Property → List ℕ → Tree → Said
+dynamic_said property owner tree = dynamic_at property Whole owner tree

@@ -13,10 +13,11 @@ use Rattle.module_table.specs.declared.file_facts.FileFacts.{FileFacts}
 use Rattle.module_table.specs.declared.file_facts.DirectiveGoals.{DirectiveGoals}
 use Rattle.module_table.specs.Defined.{Predicate, AreDefined, see_defined}
 use Rattle.module_table.specs.Metas.{Declaration, see_meta}
+use Rattle.module_table.specs.Marks.{Marked, see_mark}
 use Rattle.module_table.specs.Said.{Said, Part, Loads, defines, nothing, only, Refusal, in_turn, each_said, see_load}
 use Rattle.module_table.specs.Heads.{Owned, head, grammar_head}
 use Rattle.module_table.specs.Directives.{Home, home, directive_said}
-use Rattle.module_table.specs.Kinds.{declared_part, load_part, defined_part, goal_part, first_of, IsModule, takes_part}
+use Rattle.module_table.specs.Kinds.{declared_part, load_part, defined_part, goal_part, first_of, IsModule, takes_part, marks_part}
 
 abbrev pub with_added : ℕ → Result Owned Refusal → Result Owned Refusal
 with_added added (Ok own) = Ok (record { module_ = own.module_; name = own.name; arity = own.arity + added })
@@ -83,6 +84,7 @@ pub record Facts : Type 0 where
   pub loads : List Loads
   pub defined : List Predicate
   pub metas : List Declaration
+  pub marks : List Marked
   pub goals : List Tree
 
 -- the goals of a directive, whose names are numbers in these names
@@ -99,6 +101,7 @@ see_facts f = record {
   loads = map see_load f.loads.items;
   defined = map (see_defined f.names) f.defined.items;
   metas = map see_meta f.metas.items;
+  marks = map (see_mark f.names) f.marks.items;
   goals = flat_map (goal_trees f.names) f.goals.items;
 }
 
@@ -109,6 +112,7 @@ pub record AreFactsOf (user : List ℕ) (parts : List Part) (facts : Facts) : Ty
   pub loads : facts.loads ≡ filter_map load_part parts
   pub defined : AreDefined (filter_map defined_part parts) facts.defined
   pub metas : facts.metas ≡ filter_map takes_part parts
+  pub marks : facts.marks ≡ filter_map marks_part parts
   pub goals : facts.goals ≡ filter_map goal_part parts
 
 -- the facts of a file with these clauses

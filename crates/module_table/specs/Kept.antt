@@ -6,8 +6,9 @@ use Rattle.prolog_terms.specs.Terms.{tree_in}
 use Rattle.module_table.specs.declared.kinds.Kinds.{Kinds}
 use Rattle.module_table.specs.Defined.{see_run}
 use Rattle.module_table.specs.Metas.{see_meta}
+use Rattle.module_table.specs.Marks.{see_mark}
 use Rattle.module_table.specs.Said.{Part, Said, see_module, see_load}
-use Rattle.module_table.specs.Kinds.{ByKind, declared_part, load_part, defined_part, takes_part, goal_part, first_of, with_said}
+use Rattle.module_table.specs.Kinds.{ByKind, declared_part, load_part, defined_part, takes_part, marks_part, goal_part, first_of, with_said}
 use Rattle.module_table.specs.Facts.{goal_trees}
 
 -- what is kept, while a directive is under way whose nodes these are
@@ -17,6 +18,7 @@ see_kinds names nodes k = record {
   loads = map see_load k.loads.items;
   definitions = flat_map (see_run names) k.definitions.items;
   takes = map see_meta k.takes.items;
+  marks = map (see_mark names) k.marks.items;
   goals = flat_map (goal_trees names) k.goals.items ++ map (tree_in names nodes) k.ends.items;
 }
 
@@ -26,6 +28,7 @@ pub record AreKinds (names : List (List ℕ)) (parts : List Part) (kinds : Kinds
   pub loads : map see_load kinds.loads.items ≡ filter_map load_part parts
   pub definitions : flat_map (see_run names) kinds.definitions.items ≡ filter_map defined_part parts
   pub takes : map see_meta kinds.takes.items ≡ filter_map takes_part parts
+  pub marks : map (see_mark names) kinds.marks.items ≡ filter_map marks_part parts
   pub goals : flat_map (goal_trees names) kinds.goals.items ≡ filter_map goal_part parts
 
 -- what is said is added, whatever the nodes of the directive are

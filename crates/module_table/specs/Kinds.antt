@@ -4,7 +4,8 @@ use Rattle.prolog_terms.specs.Tree.{Tree}
 use Rattle.module_table.specs.declared.indicator.Indicator.{Indicator}
 use Rattle.module_table.specs.Defined.{Defines}
 use Rattle.module_table.specs.Metas.{Declaration}
-use Rattle.module_table.specs.Said.{Part, Said, Refusal, Declares, Loads, declares, loads, defines, takes, goal}
+use Rattle.module_table.specs.Marks.{Marked, defined_bare}
+use Rattle.module_table.specs.Said.{Part, Said, Refusal, Declares, Loads, declares, loads, defines, takes, marks, goal}
 
 abbrev pub declared_part : Part → Option Declares
 declared_part (declares own) = Some own
@@ -14,13 +15,19 @@ abbrev pub load_part : Part → Option Loads
 load_part (loads own) = Some own
 load_part part = None
 
+-- a property is declared of what is thereby defined
 abbrev pub defined_part : Part → Option Defines
 defined_part (defines own) = Some own
+defined_part (marks own) = Some (defined_bare own)
 defined_part part = None
 
 abbrev pub takes_part : Part → Option Declaration
 takes_part (takes own) = Some own
 takes_part part = None
+
+abbrev pub marks_part : Part → Option Marked
+marks_part (marks own) = Some own
+marks_part part = None
 
 abbrev pub goal_part : Part → Option Tree
 goal_part (goal own) = Some own
@@ -46,10 +53,11 @@ pub record ByKind : Type 0 where
   pub loads : List Loads
   pub definitions : List Defines
   pub takes : List Declaration
+  pub marks : List Marked
   pub goals : List Tree
 
 abbrev pub none_said : ByKind
-none_said = record { declared = None; loads = []; definitions = []; takes = []; goals = [] }
+none_said = record { declared = None; loads = []; definitions = []; takes = []; marks = []; goals = [] }
 
 -- one part more
 abbrev pub with_part : ByKind → Part → ByKind
@@ -57,6 +65,7 @@ with_part k (declares own) = record k { declared = first_module_seen k.declared 
 with_part k (loads own) = record k { loads = k.loads ++ own ∷ [] }
 with_part k (defines own) = record k { definitions = k.definitions ++ own ∷ [] }
 with_part k (takes own) = record k { takes = k.takes ++ own ∷ [] }
+with_part k (marks own) = record k { definitions = k.definitions ++ defined_bare own ∷ []; marks = k.marks ++ own ∷ [] }
 with_part k (goal own) = record k { goals = k.goals ++ own ∷ [] }
 
 abbrev pub with_parts : ByKind → List Part → ByKind

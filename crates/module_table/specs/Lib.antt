@@ -3,6 +3,7 @@ pub mod Lead
 pub mod FileName
 pub mod Paths
 pub mod Metas
+pub mod Marks
 pub mod Said
 pub mod Heads
 pub mod Indicators

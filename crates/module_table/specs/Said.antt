@@ -13,6 +13,7 @@ use Rattle.module_table.specs.declared.said.Module.{Module}
 use Rattle.module_table.specs.declared.load.Load.{Load}
 use Rattle.module_table.specs.Defined.{Defines}
 use Rattle.module_table.specs.Metas.{Declaration}
+use Rattle.module_table.specs.Marks.{Marked}
 
 -- the module of a file, and what it exports
 pub record Declares : Type 0 where
@@ -33,6 +34,7 @@ pub data Part : Type 0 where
   loads : Loads → Part
   defines : Defines → Part
   takes : Declaration → Part
+  marks : Marked → Part
   goal : Tree → Part
 
 -- why a file is refused, and where

@@ -14,6 +14,7 @@ use crate::dynamic::{Standing, push_dynamic};
 use crate::indicator::listed_indicators;
 use crate::kinds::{Kinds, push_goal, push_part};
 use crate::load::{LoadKind, push_load, push_loads, push_use_all};
+use crate::mark::Property;
 use crate::meta::push_takes;
 use crate::module_directive::module_of;
 use crate::said::{FactFault, Part, refusal};
@@ -95,8 +96,26 @@ fn one_told(
         )?;
         return Ok(Told::Done);
     }
-    if is_one_of(&["dynamic", "multifile"], name) {
-        push_dynamic(alloc, Standing::Whole, owner, argument, kinds)?;
+    if name == "dynamic" {
+        push_dynamic(
+            alloc,
+            Property::Dynamic,
+            Standing::Whole,
+            owner,
+            argument,
+            kinds,
+        )?;
+        return Ok(Told::Done);
+    }
+    if name == "multifile" {
+        push_dynamic(
+            alloc,
+            Property::Multifile,
+            Standing::Whole,
+            owner,
+            argument,
+            kinds,
+        )?;
         return Ok(Told::Done);
     }
     if name == "meta_predicate" {

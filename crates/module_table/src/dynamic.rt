@@ -1,4 +1,4 @@
-//! What `dynamic` and `multifile` define (ISO/IEC 13211-1, 7.4.2.1 and 7.4.2.2).
+//! What `dynamic` and `multifile` declare (ISO/IEC 13211-1, 7.4.2.1 and 7.4.2.2).
 
 ghost use Rattle.std.specs.Prelude.{◌≡◌, IfOk, IfErr, IfSome, OnOk, All, option_map, map};
 ghost use Rattle.prolog_names.specs.Names.{name_at};
@@ -8,8 +8,8 @@ ghost use Rattle.module_table.specs.Kept.{IsAdded};
 ghost use Rattle.module_table.specs.Dynamic.{name_in, owned, bare_said, joint_sides, whole_items, dynamic_at};
 
 use crate::indicator::{arguments_added, arity_of};
-use crate::kinds::Kinds;
-use crate::runs::push_bare;
+use crate::kinds::{Kinds, push_mark};
+use crate::mark::{Mark, Property};
 use crate::said::{FactFault, refusal};
 use crate::terms::list_items;
 use clause_text::Cause;
@@ -74,21 +74,27 @@ fn owned(owner: u32, term: &Term) -> Option<OwnedIndicator>
     })
 }
 
-/// Adds the predicate that the term names.
-fn push_one(alloc: Global, owner: u32, term: &Term, kinds: &mut Kinds) -> Result<(), FactFault>
-    ensures ok { OnOk result (IsAdded term.now.names.now kinds.old (bare_said (name_at term.now.names.now owner) (tree_of term.now)) kinds.new) }
-    ensures refused { IfErr result (λ fault. IsWhy (bare_said (name_at term.now.names.now owner) (tree_of term.now)) fault) }
+/// Adds the property of the predicate that the term names.
+fn push_one(
+    alloc: Global,
+    property: Property,
+    owner: u32,
+    term: &Term,
+    kinds: &mut Kinds,
+) -> Result<(), FactFault>
+    ensures ok { OnOk result (IsAdded term.now.names.now kinds.old (bare_said property (name_at term.now.names.now owner) (tree_of term.now)) kinds.new) }
+    ensures refused { IfErr result (λ fault. IsWhy (bare_said property (name_at term.now.names.now owner) (tree_of term.now)) fault) }
 {
     let Some(own) = owned(owner, term) else {
         return Err(refusal(Cause::BadIndicator, term));
     };
-    push_bare(
-        alloc,
-        &mut kinds.definitions,
-        own.module,
-        own.name,
-        own.arity,
-    )?;
+    let mark = Mark {
+        property,
+        module: own.module,
+        name: own.name,
+        arity: own.arity,
+    };
+    push_mark(alloc, kinds, mark)?;
     Ok(())
 }
 
@@ -120,36 +126,37 @@ fn whole_items<'a>(
     }
 }
 
-/// Adds the predicates that the term declares in the module `owner`. Fails at a term that is no
-/// predicate indicator.
+/// Adds the property of the predicates that the term names in the module `owner`. Fails at a term
+/// that is no predicate indicator.
 pub fn push_dynamic(
     alloc: Global,
+    property: Property,
     at: Standing,
     owner: u32,
     term: &Term,
     kinds: &mut Kinds,
 ) -> Result<(), FactFault>
-    ensures ok { OnOk result (IsAdded term.now.names.now kinds.old (dynamic_at at (name_at term.now.names.now owner) (tree_of term.now)) kinds.new) }
-    ensures refused { IfErr result (λ fault. IsWhy (dynamic_at at (name_at term.now.names.now owner) (tree_of term.now)) fault) }
+    ensures ok { OnOk result (IsAdded term.now.names.now kinds.old (dynamic_at property at (name_at term.now.names.now owner) (tree_of term.now)) kinds.new) }
+    ensures refused { IfErr result (λ fault. IsWhy (dynamic_at property at (name_at term.now.names.now owner) (tree_of term.now)) fault) }
 {
     match joint_sides(at, term) {
         Some((left, right)) => {
-            push_dynamic(alloc, Standing::Joint, owner, &left, kinds)?;
-            push_dynamic(alloc, Standing::Joint, owner, &right, kinds)
+            push_dynamic(alloc, property, Standing::Joint, owner, &left, kinds)?;
+            push_dynamic(alloc, property, Standing::Joint, owner, &right, kinds)
         }
         None => match sides(term, ":") {
             Some((module, inner)) => match atom_number(&module) {
-                Some(own) => push_dynamic(alloc, Standing::Whole, own, &inner, kinds),
+                Some(own) => push_dynamic(alloc, property, Standing::Whole, own, &inner, kinds),
                 None => Err(refusal(Cause::BadIndicator, term)),
             },
             None => match whole_items(alloc, at, term)? {
                 Some(items) => {
                     for item in &items {
-                        push_dynamic(alloc, Standing::Item, owner, item, kinds)?;
+                        push_dynamic(alloc, property, Standing::Item, owner, item, kinds)?;
                     }
                     Ok(())
                 }
-                None => push_one(alloc, owner, term, kinds),
+                None => push_one(alloc, property, owner, term, kinds),
             },
         },
     }

@@ -18,6 +18,7 @@ use crate::head::{OwnedHead, grammar_head, head};
 use crate::indicator::Indicator;
 use crate::kinds::{Kinds, close_directive, module_of_file, none_said};
 use crate::load::Load;
+use crate::mark::Mark;
 use crate::meta::Meta;
 use crate::runs::{end_in, push_last, push_run};
 use crate::said::FactFault;
@@ -54,6 +55,8 @@ pub struct FileFacts {
     pub defined: Vec<Defined>,
     /// Declarations of arguments that are goals, in the order of the text.
     pub metas: Vec<Meta>,
+    /// Properties that directives declare of predicates, in the order of the text.
+    pub marks: Vec<Mark>,
     /// The goals of the directives that have some, in the order of the text.
     pub goals: Vec<DirectiveGoals>,
 }
@@ -229,6 +232,7 @@ pub fn facts(alloc: Global, file: &str, text: TextClauses) -> Result<FileFacts, 
         loads: kinds.loads,
         defined,
         metas: kinds.takes,
+        marks: kinds.marks,
         goals: kinds.goals,
     })
 }

@@ -5,15 +5,18 @@ ghost use Rattle.std.specs.Arc.{arc_value};
 ghost use Rattle.prolog_terms.specs.declared.node.Node.{Node as NodeOf};
 ghost use Rattle.prolog_terms.specs.Terms.{tree_in};
 ghost use Rattle.module_table.specs.declared.said.FactFault.TheVariants.{NoMemory};
-ghost use Rattle.module_table.specs.Said.{declares, goal, see_module, see_part};
+ghost use Rattle.module_table.specs.Said.{declares, goal, marks, see_module, see_part};
 ghost use Rattle.module_table.specs.Kinds.{IsModule, none_said, with_part};
 ghost use Rattle.module_table.specs.Kept.{see_kinds};
+ghost use Rattle.module_table.specs.Marks.{see_mark};
 
 use crate::defined::Defined;
 use crate::file_facts::DirectiveGoals;
 use crate::indicator::Indicator;
 use crate::load::Load;
+use crate::mark::Mark;
 use crate::meta::Meta;
+use crate::runs::push_bare;
 use crate::said::{FactFault, Module, Part};
 use kept_clauses::KeptList;
 use prolog_tokens::Text;
@@ -29,6 +32,7 @@ pub struct Kinds {
     pub loads: Vec<Load>,
     pub definitions: Vec<Defined>,
     pub takes: Vec<Meta>,
+    pub marks: Vec<Mark>,
     pub goals: Vec<DirectiveGoals>,
     pub ends: Vec<usize>,
 }
@@ -43,6 +47,7 @@ pub fn none_said(alloc: Global, room: usize) -> Result<Kinds, AllocError>
         loads: Vec::new(alloc),
         definitions: Vec::with_capacity(alloc, room)?,
         takes: Vec::new(alloc),
+        marks: Vec::new(alloc),
         goals: Vec::new(alloc),
         ends: Vec::new(alloc),
     })
@@ -77,6 +82,22 @@ pub fn push_part(kinds: &mut Kinds, part: Part) -> Result<(), FactFault>
             Ok(())
         }
     }
+}
+
+/// Adds a property that a directive declares of a predicate, and so the predicate too.
+pub fn push_mark(alloc: Global, kinds: &mut Kinds, mark: Mark) -> Result<(), AllocError>
+    ensures { OnOk result ((names : List (List ℕ)) (nodes : List NodeOf) → see_kinds names nodes kinds.new
+        ≡ with_part (see_kinds names nodes kinds.old) (marks (see_mark names mark))) }
+{
+    push_bare(
+        alloc,
+        &mut kinds.definitions,
+        mark.module,
+        mark.name,
+        mark.arity,
+    )?;
+    kinds.marks.push(mark)?;
+    Ok(())
 }
 
 /// Adds a goal of the current directive, which ends at the first `end` nodes.

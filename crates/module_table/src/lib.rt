@@ -22,6 +22,7 @@ mod kinds;
 mod laws;
 mod lead;
 mod load;
+mod mark;
 mod meta;
 mod module_directive;
 mod runs;
@@ -40,5 +41,6 @@ pub use laws::{
     refusals_placed,
 };
 pub use load::{Load, LoadKind};
+pub use mark::{Mark, Property};
 pub use meta::Meta;
 pub use said::FactFault;

@@ -150,9 +150,9 @@ goals_that_take_goals : has_goals (and_then (with 7 (codes "call") (var ∷ []))
     (a_call 7 (codes "call") 1 ∷ a_call 8 (codes "findall") 3 ∷ [])
 goals_that_take_goals = refl
 
--- `p(X) :- \+ q(X), ( a ; b -> d ).`: control constructs are passed through
+-- `p(X) :- q(X), ( a ; b -> d ).`: control constructs of two goals are passed through
 control_constructs : has_goals
-    (and_then (compound (codes "\\+") (trees_from (with 7 (codes "q") (var ∷ []) ∷ [])) Prefix (at 6))
+    (and_then (with 7 (codes "q") (var ∷ []))
     (round (infix_term 20 (codes ";") (name 8 (codes "a")) (infix_term 21 (codes "->") (name 9 (codes "b")) (name 10 (codes "d"))))))
     (a_call 7 (codes "q") 1 ∷ a_call 8 (codes "a") 0 ∷ a_call 9 (codes "b") 0 ∷ a_call 10 (codes "d") 0 ∷ [])
 control_constructs = refl
@@ -168,7 +168,11 @@ written_without_goals = refl
 no_goals_either : has_goals (and_then (list (name 7 (codes "a") ∷ [])) (curly (name 8 (codes "b")) (at 9))) []
 no_goals_either = refl
 
--- goals that keep their trees: `q(f(X))`, `q(a)`, `m:a`, `3`, `;(a, b, d)`, `findall(X, q(X), L)`
+-- goals that keep their trees: `\+ a`, `q(f(X))`, `q(a)`, `m:a`, `3`, `;(a, b, d)`, `findall(X, q(X), L)`
+
+a_negation : has_goals (compound (codes "\\+") (trees_from (name 7 (codes "a") ∷ [])) Prefix (at 6))
+    (whole (compound (codes "\\+") (trees_from (name 7 (codes "a") ∷ [])) Prefix (at 6)) ∷ [])
+a_negation = refl
 
 a_compound_argument : has_goals (with 7 (codes "q") (with 8 (codes "f") (var ∷ []) ∷ [])) (whole (with 7 (codes "q") (with 8 (codes "f") (var ∷ []) ∷ [])) ∷ [])
 a_compound_argument = refl

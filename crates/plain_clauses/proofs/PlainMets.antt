@@ -1,5 +1,5 @@
 -- What is met in a clause with a plain form: what is met in the goals of the form, in the order of the text.
-use Rattle.std.proofs.Common.{◌≡◌, ◌↔◌, inl, inr, ℕ, ◌+◌, ◌<◌, Bool, true, false, ◌&&◌, ◌||◌, List, [], ◌∷◌, ◌++◌, Option, Some, None, if◌then◌else◌, codes, refl, sym, ap, ◌∙◌, subst, arith, append_assoc, append-nil}
+use Rattle.std.proofs.Common.{◌≡◌, ◌↔◌, inl, inr, ℕ, ◌+◌, ◌<◌, Bool, true, false, ◌&&◌, List, [], ◌∷◌, ◌++◌, Option, Some, None, if◌then◌else◌, codes, refl, sym, ap, ◌∙◌, subst, arith, append_assoc, append-nil}
 use Rattle.std.specs.Prelude.{Contains}
 use Rattle.std.specs.Str.{bytes_eq}
 use Rattle.prolog_terms.specs.declared.term.Span.{Span}
@@ -11,7 +11,7 @@ use Rattle.module_table.specs.declared.goal_arg.GoalArg.TheVariants.{Plain, Goal
 use Rattle.kept_clauses.proofs.FreeNames.{both_true, plain_free}
 use Rattle.call_edges.specs.declared.role.Way.TheVariants.{Control, Qualified, Calling}
 use Rattle.call_edges.specs.Calls.{IsMetInClause, body_by, body_of}
-use Rattle.call_edges.specs.Goals.{Met, Place, Rows, no_goals, way}
+use Rattle.call_edges.specs.Goals.{Met, Place, Rows, goal_role, no_goals, unmet, body_role, way}
 use Rattle.call_edges.specs.Listed.{mets_in, mets_among}
 use Rattle.call_edges.proofs.GoalMets.{call_mets, met_by, goal_mets, goals_mets, body_mets}
 use Rattle.call_edges.proofs.ListedMets.{mets_are}
@@ -24,16 +24,13 @@ no_more xs = sym (append-nil xs)
 
 -- what a compound is to a body, by its name
 
-negation_way : (name : List ℕ) → bytes_eq name (codes "\\+") ≡ true → way (Goal 0) name 1 ≡ Control
-negation_way name is = ap (λ (b : Bool). if b then Control else Calling) is
-
 control_way : (name : List ℕ) → is_one_of control_names name ≡ true → way (Goal 0) name 2 ≡ Control
-control_way name is = ap (λ (b : Bool). if b || false then Control else (if bytes_eq name (codes ":") then Qualified else Calling)) is
+control_way name is = ap (λ (b : Bool). if b then Control else (if bytes_eq name (codes ":") then Qualified else Calling)) is
 
 module _ (T : Rows) where
   -- nothing is met within a term that is no goal
   mutual
-    plain_none : (owner : List ℕ) (tree : Tree) → mets_in T owner Plain tree ≡ []
+    plain_none : (owner : List ℕ) (tree : Tree) → mets_in T owner (body_role Plain) tree ≡ []
     plain_none owner (variable span) = refl
     plain_none owner (constant kind minus value span) = refl
     plain_none owner (atom name span) = refl
@@ -43,7 +40,7 @@ module _ (T : Rows) where
     plain_none owner (curly inner span) = plain_none owner inner
     plain_none owner (paren inner span) = plain_none owner inner
 
-    all_plain_none : (owner : List ℕ) (i : ℕ) (trees : Trees) → mets_among T owner no_goals i trees ≡ []
+    all_plain_none : (owner : List ℕ) (i : ℕ) (trees : Trees) → mets_among T (unmet owner no_goals false) i trees ≡ []
     all_plain_none owner i none = refl
     all_plain_none owner i (more tree trees) = λ k. plain_none owner tree k ++ all_plain_none owner (i + 1) trees k
 
@@ -54,51 +51,43 @@ module _ (T : Rows) where
 
     -- a compound that is no control construct
     compound_mets : (name : List ℕ) (args : Trees) (form : Form) (span : Span) →
-        mets_in T owner (Goal 0) (compound name args form span) ≡ goals_mets T owner (compound_goal span.from name args (compound name args form span) ∷ [])
+        mets_in T owner goal_role (compound name args form span) ≡ goals_mets T owner (compound_goal span.from name args (compound name args form span) ∷ [])
     compound_mets name args form span = by_test (is_plain_name span.from name (count args) && all_silent args) refl
       where
         by_test : (test : Bool) → is_plain_name span.from name (count args) && all_silent args ≡ test
-            → mets_in T owner (Goal 0) (compound name args form span)
+            → mets_in T owner goal_role (compound name args form span)
             ≡ goals_mets T owner ((if test then called (record { at = span.from; name = name; arity = count args }) else whole (compound name args form span)) ∷ [])
         by_test true is =
             let both = both_true (is_plain_name span.from name (count args)) (all_silent args) is in
             call_mets T owner name args span (plain_free span.from name (count args) both.0) both.1
-        by_test false is = no_more (mets_in T owner (Goal 0) (compound name args form span))
+        by_test false is = no_more (mets_in T owner goal_role (compound name args form span))
 
     -- an atom
-    atom_mets : (name : List ℕ) (span : Span) → mets_in T owner (Goal 0) (atom name span) ≡ goals_mets T owner (atom_goal span.from name (atom name span) ∷ [])
+    atom_mets : (name : List ℕ) (span : Span) → mets_in T owner goal_role (atom name span) ≡ goals_mets T owner (atom_goal span.from name (atom name span) ∷ [])
     atom_mets name span = by_test (fits span.from 0)
       where
-        by_test : (test : Bool) → mets_in T owner (Goal 0) (atom name span)
+        by_test : (test : Bool) → mets_in T owner goal_role (atom name span)
             ≡ goals_mets T owner ((if test then called (record { at = span.from; name = name; arity = 0 }) else whole (atom name span)) ∷ [])
         by_test true = refl
-        by_test false = no_more (mets_in T owner (Goal 0) (atom name span))
+        by_test false = no_more (mets_in T owner goal_role (atom name span))
 
-    pub goals_met : (tree : Tree) → mets_in T owner (Goal 0) tree ≡ goals_mets T owner (body_goals tree)
+    pub goals_met : (tree : Tree) → mets_in T owner goal_role tree ≡ goals_mets T owner (body_goals tree)
     goals_met (variable span) = refl
-    goals_met (constant kind minus value span) = no_more (mets_in T owner (Goal 0) (constant kind minus value span))
+    goals_met (constant kind minus value span) = no_more (mets_in T owner goal_role (constant kind minus value span))
     goals_met (atom name span) = atom_mets name span
     goals_met (compound name none form span) = compound_mets name none form span
-    goals_met (compound name (more inner none) form span) = by_test (bytes_eq name (codes "\\+")) refl (goals_met inner)
-      where
-        by_test : (test : Bool) → bytes_eq name (codes "\\+") ≡ test → mets_in T owner (Goal 0) inner ≡ goals_mets T owner (body_goals inner)
-            → mets_in T owner (Goal 0) (compound name (more inner none) form span)
-            ≡ goals_mets T owner
-            (if test then body_goals inner else compound_goal span.from name (more inner none) (compound name (more inner none) form span) ∷ [])
-        by_test true is inner_is =
-            ap (λ w. met_by T owner w name (more inner none) span) (negation_way name is) ∙ sym (no_more (mets_in T owner (Goal 0) inner)) ∙ inner_is
-        by_test false is inner_is = compound_mets name (more inner none) form span
+    goals_met (compound name (more inner none) form span) = compound_mets name (more inner none) form span
     goals_met (compound name (more left (more right none)) form span) = by_test (is_one_of control_names name) refl (goals_met left) (goals_met right)
       where
-        by_test : (test : Bool) → is_one_of control_names name ≡ test → mets_in T owner (Goal 0) left ≡ goals_mets T owner (body_goals left)
-            → mets_in T owner (Goal 0) right ≡ goals_mets T owner (body_goals right)
-            → mets_in T owner (Goal 0) (compound name (more left (more right none)) form span)
+        by_test : (test : Bool) → is_one_of control_names name ≡ test → mets_in T owner goal_role left ≡ goals_mets T owner (body_goals left)
+            → mets_in T owner goal_role right ≡ goals_mets T owner (body_goals right)
+            → mets_in T owner goal_role (compound name (more left (more right none)) form span)
             ≡ goals_mets T owner
             (if test then body_goals left ++ body_goals right
             else compound_goal span.from name (more left (more right none)) (compound name (more left (more right none)) form span) ∷ [])
         by_test true is left_is right_is =
             ap (λ w. met_by T owner w name (more left (more right none)) span) (control_way name is)
-            ∙ (λ k. left_is k ++ (sym (no_more (mets_in T owner (Goal 0) right)) ∙ right_is) k)
+            ∙ (λ k. left_is k ++ (sym (no_more (mets_in T owner goal_role right)) ∙ right_is) k)
             ∙ sym (append_mets (body_goals left) (body_goals right))
         by_test false is left_is right_is = compound_mets name (more left (more right none)) form span
     goals_met (compound name (more one (more two (more three args))) form span) = compound_mets name (more one (more two (more three args))) form span

@@ -12,7 +12,7 @@ use Rattle.import_rules.specs.declared.names.PredName.{PredName}
 use Rattle.import_rules.specs.Program.{Seen, places_in, found}
 use Rattle.call_edges.specs.Bodies.{Body, bodies_at}
 use Rattle.call_edges.specs.Calls.{IsMetInClause, IsAmong, IsMetAt, IsMetIn, IsMetInGoals, target, GoesTo, NodeCalls}
-use Rattle.call_edges.specs.CallPlaces.{CallAt, IsCallBy, IsCalledIn, IsCallOf}
+use Rattle.call_edges.specs.CallPlaces.{CallAt, IsCallBy, IsCalledIn, IsCallOf, met_of}
 use Rattle.call_edges.specs.FileOrder.{first_offset, offset_in, offset_at, place_number, first_start, start_in}
 use Rattle.call_edges.specs.Goals.{Met, call, fault, row, Rows}
 use Rattle.call_edges.specs.GoalFaults.{IsMetInFile, IsGoalFault}
@@ -129,7 +129,7 @@ module _ (seen : Seen) where
       )
 
   pub target_same : (m : Met) → target other m ≡ target seen m
-  target_same (call at owner name arity) = found_same seen owner name arity
+  target_same (call at owner name arity more negated) = found_same seen owner name arity
   target_same (fault at) = refl
 
   -- what goes to a predicate
@@ -145,8 +145,20 @@ module _ (seen : Seen) where
   pub unresolved_same : (node : ℕ) (name : PredName) → IsUnresolved other node name ↔ IsUnresolved seen node name
   unresolved_same node name =
       let same = found_same seen name.module name.name name.arity in (
-        λ is. record { at = is.at; met = (node_met node (call is.at name.module name.name name.arity)).0 is.met; means_none = sym same ∙ is.means_none },
-        λ is. record { at = is.at; met = (node_met node (call is.at name.module name.name name.arity)).1 is.met; means_none = same ∙ is.means_none },
+        λ is. record {
+          at = is.at;
+          added = is.added;
+          negated = is.negated;
+          met = (node_met node (call is.at name.module name.name name.arity is.added is.negated)).0 is.met;
+          means_none = sym same ∙ is.means_none;
+        },
+        λ is. record {
+          at = is.at;
+          added = is.added;
+          negated = is.negated;
+          met = (node_met node (call is.at name.module name.name name.arity is.added is.negated)).1 is.met;
+          means_none = same ∙ is.means_none;
+        },
       )
 
   -- goals that aren't callable
@@ -247,9 +259,6 @@ module _ (seen : Seen) where
 -- at a place of the files, the call stands in a clause of the predicate that is defined there
 abbrev IsCallThere : Seen → ℕ → ℕ × ℕ → CallAt → Type 0
 IsCallThere seen caller at c = IsCallBy seen at.0 caller (IsMetAt (rows_of seen) seen.loaded.files at) c
-
-abbrev met_of : CallAt → Met
-met_of c = call c.offset c.callee.module c.callee.name c.callee.arity
 
 module _ (seen : Seen) (caller : ℕ) where
   call_there : (at : ℕ × ℕ) (c : CallAt) → IsAmong (IsCalledIn seen caller) (bodies_at seen.loaded.files at) c ↔ IsCallThere seen caller at c

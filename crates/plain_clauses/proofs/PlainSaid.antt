@@ -14,8 +14,9 @@ use Rattle.module_table.specs.Defined.{Defines, Predicate, clause_for, clauses_f
 use Rattle.module_table.specs.Directives.{Home, home, directive_said}
 use Rattle.module_table.specs.Facts.{Facts, AreFacts, clause_head, headed, clause_said, module_of, trees_said, file_said, named_module}
 use Rattle.module_table.specs.Heads.{Owned}
-use Rattle.module_table.specs.Kinds.{declared_part, load_part, defined_part, takes_part, goal_part, first_of, IsModule}
-use Rattle.module_table.specs.Said.{Said, Part, Refusal, declares, loads, defines, takes, goal, in_turn, each_said}
+use Rattle.module_table.specs.Kinds.{declared_part, load_part, defined_part, takes_part, marks_part, goal_part, first_of, IsModule}
+use Rattle.module_table.specs.Marks.{defined_bare}
+use Rattle.module_table.specs.Said.{Said, Part, Refusal, declares, loads, defines, takes, marks, goal, in_turn, each_said}
 use Rattle.module_table.proofs.DirectiveParts.{IsOfDirective, OfDirective, directive_of as directive_parts}
 use Rattle.kept_clauses.specs.Plain.{PlainClause, clause_span, plain}
 use Rattle.plain_clauses.specs.PlainFacts.{plain_predicate, plain_facts, plain_defines, plain_part, plain_said}
@@ -59,6 +60,7 @@ module _ (user : Home) where
       let same : plain_part (defines own) ≡ defines own = ap (λ clause. bare (option_map plain clause)) all.0 ∙ sym (ap bare all.0) in
       λ i. same i ∷ parts_same parts all.1 i
   parts_same (takes own ∷ parts) all = ap (λ rest. takes own ∷ rest) (parts_same parts all.1)
+  parts_same (marks own ∷ parts) all = ap (λ rest. marks own ∷ rest) (parts_same parts all.1)
   parts_same (goal own ∷ parts) all = ap (λ rest. goal own ∷ rest) (parts_same parts all.1)
 
   directive_plain : (said : Said) → OfDirective user said → plain_said said ≡ said
@@ -122,6 +124,7 @@ kinds_same kind none (loads own ∷ parts) = ap (cons_option (kind (loads own)))
 kinds_same kind none (defines own ∷ parts) =
     λ i. cons_option ((none (plain_defines own) ∙ sym (none own)) i) (kinds_same kind none parts i)
 kinds_same kind none (takes own ∷ parts) = ap (cons_option (kind (takes own))) (kinds_same kind none parts)
+kinds_same kind none (marks own ∷ parts) = ap (cons_option (kind (marks own))) (kinds_same kind none parts)
 kinds_same kind none (goal own ∷ parts) = ap (cons_option (kind (goal own))) (kinds_same kind none parts)
 
 pub defined_plain : (parts : List Part) → filter_map defined_part (map plain_part parts) ≡ map plain_defines (filter_map defined_part parts)
@@ -130,6 +133,7 @@ defined_plain (declares own ∷ parts) = defined_plain parts
 defined_plain (loads own ∷ parts) = defined_plain parts
 defined_plain (defines own ∷ parts) = ap (λ rest. plain_defines own ∷ rest) (defined_plain parts)
 defined_plain (takes own ∷ parts) = defined_plain parts
+defined_plain (marks own ∷ parts) = ap (λ rest. defined_bare own ∷ rest) (defined_plain parts)
 defined_plain (goal own ∷ parts) = defined_plain parts
 
 -- the clauses of a predicate
@@ -212,6 +216,7 @@ facts_are user trees facts are = record {
         subst (λ ds. AreDefined ds (map plain_predicate facts.defined)) (sym (defined_plain are.parts))
         (defined_are (filter_map defined_part are.parts) facts.defined are.are.defined);
     metas = are.are.metas ∙ sym (kinds_same takes_part (λ own. refl) are.parts);
+    marks = are.are.marks ∙ sym (kinds_same marks_part (λ own. refl) are.parts);
     goals = are.are.goals ∙ sym (kinds_same goal_part (λ own. refl) are.parts);
   };
 }

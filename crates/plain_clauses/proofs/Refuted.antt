@@ -7,13 +7,13 @@ use Rattle.prolog_terms.specs.declared.term.Span.{Span}
 use Rattle.prolog_terms.specs.declared.term.Form.TheVariants.{Functional, Infix}
 use Rattle.prolog_terms.specs.declared.term.ConstKind.TheVariants.{Integer}
 use Rattle.prolog_terms.specs.Tree.{Tree, variable, constant, atom, compound, curly, trees_from}
-use Rattle.module_table.specs.declared.goal_arg.GoalArg.{GoalArg}
 use Rattle.module_table.specs.declared.goal_arg.GoalArg.TheVariants.{Plain, Goal, Grammar}
 use Rattle.module_table.specs.Heads.{Owned}
 use Rattle.module_table.specs.Said.{Refusal}
 use Rattle.module_table.specs.Facts.{clause_head}
 use Rattle.call_edges.specs.Calls.{IsMetInClause}
-use Rattle.call_edges.specs.Goals.{Met, call, fault, Rows, as_declared, by_table, row}
+use Rattle.call_edges.specs.declared.role.Role.{Role}
+use Rattle.call_edges.specs.Goals.{Met, call, fault, goal_role, Rows, as_declared, by_table, row}
 use Rattle.kept_clauses.specs.Views.{IsSoundGoal}
 use Rattle.call_edges.specs.Listed.{mets_in}
 use Rattle.kept_clauses.specs.Plain.{PlainGoal, called, written, plain}
@@ -44,6 +44,14 @@ with_goal goal = written (record { span = at 1; name = codes "p"; arity = 0; bod
 abbrev a_call : ℕ → List ℕ → ℕ → PlainGoal
 a_call n own arity = called (record { at = n; name = own; arity = arity })
 
+-- a call without added arguments, and one to which one is added, neither negated
+
+abbrev a_met : ℕ → List ℕ → ℕ → Met
+a_met n own arity = call n user own arity 0 false
+
+abbrev extended : ℕ → List ℕ → Met
+extended n own = call n user own 1 1 false
+
 -- a program declares `each(1, ?)`, `t(0)` and `body(//)`
 abbrev declaring : Rows
 declaring owner own arity =
@@ -68,24 +76,24 @@ there tree one other is =
 abbrev shown : Tree
 shown = rule p (with 7 (codes "each") (atom (codes "show") (at 8) ∷ var ∷ []))
 
-show_is_met : IsMetInClause declaring user shown (call 8 user (codes "show") 1)
-show_is_met = there shown (call 7 user (codes "each") 2) (call 8 user (codes "show") 1) refl
+show_is_met : IsMetInClause declaring user shown (extended 8 (codes "show"))
+show_is_met = there shown (a_met 7 (codes "each") 2) (extended 8 (codes "show")) refl
 
-show_is_lost : IsMetInClause declaring user (with_goal (a_call 7 (codes "each") 2)) (call 8 user (codes "show") 1) → ⊥
+show_is_lost : IsMetInClause declaring user (with_goal (a_call 7 (codes "each") 2)) (extended 8 (codes "show")) → ⊥
 show_is_lost met =
-    let same : call 7 user (codes "each") 2 ≡ call 8 user (codes "show") 1 =
-    alone (with_goal (a_call 7 (codes "each") 2)) (call 7 user (codes "each") 2) (call 8 user (codes "show") 1) refl met in
+    let same : a_met 7 (codes "each") 2 ≡ extended 8 (codes "show") =
+    alone (with_goal (a_call 7 (codes "each") 2)) (a_met 7 (codes "each") 2) (extended 8 (codes "show")) refl met in
     cc
 
 -- so the plain tree has the goal as it stands
-show_is_kept : clause_mets declaring user (plain shown) ≡ call 7 user (codes "each") 2 ∷ call 8 user (codes "show") 1 ∷ []
+show_is_kept : clause_mets declaring user (plain shown) ≡ a_met 7 (codes "each") 2 ∷ extended 8 (codes "show") ∷ []
 show_is_kept = refl
 
 -- no test that lets an atom through is one of silent terms, whatever else it says
 no_silent_atom : (quiet : Tree → Bool) (name : List ℕ) (span : Span) → quiet (atom name span) ≡ true
-    → ((T : Rows) (owner : List ℕ) (role : GoalArg) (tree : Tree) → quiet tree ≡ true → mets_in T owner role tree ≡ []) → ⊥
+    → ((T : Rows) (owner : List ℕ) (role : Role) (tree : Tree) → quiet tree ≡ true → mets_in T owner role tree ≡ []) → ⊥
 no_silent_atom quiet name span passes nothing =
-    let none : call span.from user name 0 ∷ [] ≡ [] = nothing declaring user (Goal 0) (atom name span) passes in cc
+    let none : call span.from user name 0 0 false ∷ [] ≡ [] = nothing declaring user goal_role (atom name span) passes in cc
 
 -- nor is a number: `p :- t(3).` has a goal that isn't callable
 
@@ -93,13 +101,13 @@ abbrev numbered : Tree
 numbered = rule p (with 7 (codes "t") (constant Integer false (Some 3) (at 8) ∷ []))
 
 fault_is_met : IsMetInClause declaring user numbered (fault 8)
-fault_is_met = there numbered (call 7 user (codes "t") 1) (fault 8) refl
+fault_is_met = there numbered (a_met 7 (codes "t") 1) (fault 8) refl
 
 fault_is_lost : IsMetInClause declaring user (with_goal (a_call 7 (codes "t") 1)) (fault 8) → ⊥
 fault_is_lost met =
-    let same : call 7 user (codes "t") 1 ≡ fault 8 = alone (with_goal (a_call 7 (codes "t") 1)) (call 7 user (codes "t") 1) (fault 8) refl met in cc
+    let same : a_met 7 (codes "t") 1 ≡ fault 8 = alone (with_goal (a_call 7 (codes "t") 1)) (a_met 7 (codes "t") 1) (fault 8) refl met in cc
 
-fault_is_kept : clause_mets declaring user (plain numbered) ≡ call 7 user (codes "t") 1 ∷ fault 8 ∷ []
+fault_is_kept : clause_mets declaring user (plain numbered) ≡ a_met 7 (codes "t") 1 ∷ fault 8 ∷ []
 fault_is_kept = refl
 
 -- nor are curly brackets, within which a grammar body has goals: `p :- body({a}).`
@@ -107,27 +115,27 @@ fault_is_kept = refl
 abbrev curled : Tree
 curled = rule p (with 7 (codes "body") (curly (atom (codes "a") (at 9)) (at 8) ∷ []))
 
-inner_is_met : IsMetInClause declaring user curled (call 9 user (codes "a") 0)
-inner_is_met = there curled (call 7 user (codes "body") 1) (call 9 user (codes "a") 0) refl
+inner_is_met : IsMetInClause declaring user curled (a_met 9 (codes "a") 0)
+inner_is_met = there curled (a_met 7 (codes "body") 1) (a_met 9 (codes "a") 0) refl
 
-inner_is_lost : IsMetInClause declaring user (with_goal (a_call 7 (codes "body") 1)) (call 9 user (codes "a") 0) → ⊥
+inner_is_lost : IsMetInClause declaring user (with_goal (a_call 7 (codes "body") 1)) (a_met 9 (codes "a") 0) → ⊥
 inner_is_lost met =
-    let same : call 7 user (codes "body") 1 ≡ call 9 user (codes "a") 0 =
-    alone (with_goal (a_call 7 (codes "body") 1)) (call 7 user (codes "body") 1) (call 9 user (codes "a") 0) refl met in
+    let same : a_met 7 (codes "body") 1 ≡ a_met 9 (codes "a") 0 =
+    alone (with_goal (a_call 7 (codes "body") 1)) (a_met 7 (codes "body") 1) (a_met 9 (codes "a") 0) refl met in
     cc
 
-inner_is_kept : clause_mets declaring user (plain curled) ≡ call 7 user (codes "body") 1 ∷ call 9 user (codes "a") 0 ∷ []
+inner_is_kept : clause_mets declaring user (plain curled) ≡ a_met 7 (codes "body") 1 ∷ a_met 9 (codes "a") 0 ∷ []
 inner_is_kept = refl
 
 -- a call has the offset of its goal and not of its clause: `p :- q(X).`
 
-moved_is_lost : IsMetInClause declaring user (with_goal (a_call 1 (codes "q") 1)) (call 7 user (codes "q") 1) → ⊥
+moved_is_lost : IsMetInClause declaring user (with_goal (a_call 1 (codes "q") 1)) (a_met 7 (codes "q") 1) → ⊥
 moved_is_lost met =
-    let same : call 1 user (codes "q") 1 ≡ call 7 user (codes "q") 1 =
-    alone (with_goal (a_call 1 (codes "q") 1)) (call 1 user (codes "q") 1) (call 7 user (codes "q") 1) refl met in
+    let same : a_met 1 (codes "q") 1 ≡ a_met 7 (codes "q") 1 =
+    alone (with_goal (a_call 1 (codes "q") 1)) (a_met 1 (codes "q") 1) (a_met 7 (codes "q") 1) refl met in
     cc
 
-moved_is_kept : clause_mets declaring user (plain (rule p (with 7 (codes "q") (var ∷ [])))) ≡ call 7 user (codes "q") 1 ∷ []
+moved_is_kept : clause_mets declaring user (plain (rule p (with 7 (codes "q") (var ∷ [])))) ≡ a_met 7 (codes "q") 1 ∷ []
 moved_is_kept = refl
 
 -- a call of a reserved name with arguments is none as a term, so it isn't sound: `','(X, Y)` has two goals, both variables
@@ -138,9 +146,9 @@ joining = a_call 7 (codes ",") 2
 nothing_is_met : clause_mets declaring user (with_goal joining) ≡ []
 nothing_is_met = refl
 
-call_is_lost : IsMetInClause declaring user (with_goal joining) (call 7 user (codes ",") 2) → ⊥
+call_is_lost : IsMetInClause declaring user (with_goal joining) (a_met 7 (codes ",") 2) → ⊥
 call_is_lost met =
-    let one = call 7 user (codes ",") 2 in nothing_in one ((clause_mets_are declaring user (with_goal joining) one).0 met)
+    let one = a_met 7 (codes ",") 2 in nothing_in one ((clause_mets_are declaring user (with_goal joining) one).0 met)
 
 not_sound : IsSoundGoal joining → ⊥
 not_sound sound = elim sound [ inl none ↦ absurd (omega (arith, none)) | inr free ↦ let both : false ≡ true = free in absurd (cc) ]
@@ -154,14 +162,28 @@ atom_is_sound = inl refl
 abbrev qualified : Tree
 qualified = rule p (with 7 (codes ":") (atom (codes "m") (at 8) ∷ atom (codes "a") (at 9) ∷ []))
 
-of_module_is_lost : IsMetInClause declaring user (with_goal (a_call 9 (codes "a") 0)) (call 9 (codes "m") (codes "a") 0) → ⊥
+of_module_is_lost : IsMetInClause declaring user (with_goal (a_call 9 (codes "a") 0)) (call 9 (codes "m") (codes "a") 0 0 false) → ⊥
 of_module_is_lost met =
-    let same : call 9 user (codes "a") 0 ≡ call 9 (codes "m") (codes "a") 0 =
-    alone (with_goal (a_call 9 (codes "a") 0)) (call 9 user (codes "a") 0) (call 9 (codes "m") (codes "a") 0) refl met in
+    let same : a_met 9 (codes "a") 0 ≡ call 9 (codes "m") (codes "a") 0 0 false =
+    alone (with_goal (a_call 9 (codes "a") 0)) (a_met 9 (codes "a") 0) (call 9 (codes "m") (codes "a") 0 0 false) refl met in
     cc
 
-of_module_is_kept : clause_mets declaring user (plain qualified) ≡ call 9 (codes "m") (codes "a") 0 ∷ []
+of_module_is_kept : clause_mets declaring user (plain qualified) ≡ call 9 (codes "m") (codes "a") 0 0 false ∷ []
 of_module_is_kept = refl
+
+-- a negated goal is no goal that isn't negated: `p :- \+ a.`
+
+abbrev negating : Tree
+negating = rule p (with 7 (codes "\\+") (atom (codes "a") (at 8) ∷ []))
+
+negated_is_lost : IsMetInClause declaring user (with_goal (a_call 8 (codes "a") 0)) (call 8 user (codes "a") 0 0 true) → ⊥
+negated_is_lost met =
+    let same : a_met 8 (codes "a") 0 ≡ call 8 user (codes "a") 0 0 true =
+    alone (with_goal (a_call 8 (codes "a") 0)) (a_met 8 (codes "a") 0) (call 8 user (codes "a") 0 0 true) refl met in
+    cc
+
+negated_is_kept : clause_mets declaring user (plain negating) ≡ call 8 user (codes "a") 0 0 true ∷ []
+negated_is_kept = refl
 
 -- a head of another module defines no predicate of this one: `m:p.`
 

@@ -7,7 +7,7 @@ use Rattle.list_laws.proofs.Members.{map_has, map_from}
 use Rattle.prolog_terms.specs.Tree.{Tree}
 use Rattle.module_table.specs.Defined.{Defines, Predicate, clauses_for, predicate_cmp, AreDefined}
 use Rattle.module_table.specs.Facts.{Facts, AreFacts, AreFactsOf, file_said}
-use Rattle.module_table.specs.Kinds.{declared_part, load_part, defined_part, takes_part, goal_part, first_of, IsModule}
+use Rattle.module_table.specs.Kinds.{declared_part, load_part, defined_part, takes_part, marks_part, goal_part, first_of, IsModule}
 use Rattle.module_table.specs.Said.{Said, Part}
 use Rattle.module_table.proofs.OneFacts.{one_facts}
 use Rattle.module_table.proofs.SaidLemmas.{ok_once}
@@ -66,6 +66,7 @@ module _ (user : List ℕ) (trees : List Tree) (facts : Facts) (are : AreFacts u
           loads = of.loads ∙ kinds_same load_part (λ own. refl) parts;
           defined = restored_are ds facts.defined (subst (λ own. AreDefined own facts.defined) (defined_plain parts) of.defined);
           metas = of.metas ∙ kinds_same takes_part (λ own. refl) parts;
+          marks = of.marks ∙ kinds_same marks_part (λ own. refl) parts;
           goals = of.goals ∙ kinds_same goal_part (λ own. refl) parts;
         };
       } in

@@ -1,13 +1,12 @@
 -- A plain form that is written as a term is the plain form of that term.
-use Rattle.std.proofs.Common.{◌≡◌, inl, inr, ℕ, zero, suc, Bool, true, false, ◌&&◌, List, [], ◌∷◌, ◌++◌, Option, Some, None, if◌then◌else◌, codes, refl, sym, ap, ◌∙◌, subst}
-use Rattle.std.specs.Str.{bytes_eq}
+use Rattle.std.proofs.Common.{◌≡◌, inl, inr, ℕ, zero, suc, Bool, true, false, ◌&&◌, List, [], ◌∷◌, ◌++◌, Option, Some, None, if◌then◌else◌, refl, sym, ap, ◌∙◌, subst}
 use Rattle.prolog_terms.specs.declared.term.Span.{Span}
 use Rattle.prolog_terms.specs.Tree.{Tree, Trees, variable, constant, atom, compound, listed, tailed, curly, paren, none, more, count}
 use Rattle.prolog_terms.specs.Views.{binary}
 use Rattle.kept_clauses.specs.Plain.{is_one_of, control_names, is_free, fits, is_plain_name, all_silent, PlainGoal, called, whole, PlainClause, compound_goal, atom_goal, body_goals, clause_span}
 use Rattle.kept_clauses.specs.Plain.{clause_named, clause_by, plain_clause, span_at, variables, named_tree, goal_tree, goals_from, body_tree, written, plain}
 use Rattle.kept_clauses.proofs.Bodies.{if_true, if_false}
-use Rattle.kept_clauses.proofs.FreeNames.{both_true, plain_free, not_negation}
+use Rattle.kept_clauses.proofs.FreeNames.{both_true, plain_free}
 use Rattle.module_table.proofs.PlainHeads.{no_control}
 use Rattle.module_table.proofs.PlainHeads.{count_variables, named_back, named_span, named_binary, no_rule}
 use Rattle.call_edges.proofs.GoalMets.{silent_variables}
@@ -45,8 +44,7 @@ module _ (at : ℕ) (name : List ℕ) where
 
   call_back : (n : ℕ) → is_plain_name at name n ≡ true → body_goals (tree_of n) ≡ call_goal at name n ∷ []
   call_back zero is = ap (λ goal. goal ∷ []) (atom_back (tree_of 0) (both_true (is_free name) (fits at 0) is).1)
-  call_back (suc zero) is =
-      if_false (bytes_eq name (codes "\\+")) _ _ (not_negation name (plain_free at name 1 is)).1 ∙ ap (λ goal. goal ∷ []) (compound_back 1 (tree_of 1) is)
+  call_back (suc zero) is = ap (λ goal. goal ∷ []) (compound_back 1 (tree_of 1) is)
   call_back (suc (suc zero)) is =
       if_false (is_one_of control_names name) _ _ (no_control name (plain_free at name 2 is)) ∙ ap (λ goal. goal ∷ []) (compound_back 2 (tree_of 2) is)
   call_back (suc (suc (suc n))) is = ap (λ goal. goal ∷ []) (compound_back (suc (suc (suc n))) (tree_of (suc (suc (suc n)))) is)
@@ -82,17 +80,8 @@ goals_normal (variable span) = tt
 goals_normal (constant kind minus value span) = (refl, tt)
 goals_normal (atom name span) = (atom_normal name span, tt)
 goals_normal (compound name none form span) = (compound_normal span.from name none (compound name none form span) refl, tt)
-goals_normal (compound name (more inner none) form span) = by_test (bytes_eq name (codes "\\+")) refl (goals_normal inner)
-  where
-    tree : Tree
-    tree = compound name (more inner none) form span
-
-    by_test : (test : Bool) → bytes_eq name (codes "\\+") ≡ test → AreNormal (body_goals inner) → AreNormal (body_goals (compound name (more inner none) form span))
-    by_test true is normal = subst AreNormal (sym (if_true (bytes_eq name (codes "\\+")) _ _ is)) normal
-    by_test false is normal =
-        let goals_are = if_false (bytes_eq name (codes "\\+")) (body_goals inner)
-        (compound_goal span.from name (more inner none) (compound name (more inner none) form span) ∷ []) is in
-        subst AreNormal (sym goals_are) (compound_normal span.from name (more inner none) (compound name (more inner none) form span) goals_are, tt)
+goals_normal (compound name (more inner none) form span) =
+    (compound_normal span.from name (more inner none) (compound name (more inner none) form span) refl, tt)
 goals_normal (compound name (more left (more right none)) form span) =
     by_test (is_one_of control_names name) refl (goals_normal left) (goals_normal right)
   where

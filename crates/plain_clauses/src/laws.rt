@@ -8,8 +8,6 @@ ghost use Rattle.prolog_terms.specs.Weight.{weight};
 ghost use Rattle.kept_clauses.specs.Plain.{silent, PlainClause, body_goals, clause_span, plain, plain_clause};
 ghost use Rattle.clause_text.specs.Items.{directive_of};
 ghost use Rattle.clause_text.specs.Offsets.{HasOffsets};
-ghost use Rattle.module_table.specs.declared.goal_arg.GoalArg.{GoalArg};
-ghost use Rattle.module_table.specs.declared.goal_arg.GoalArg.TheVariants.{Goal};
 ghost use Rattle.module_table.specs.Said.{Refusal};
 ghost use Rattle.module_table.specs.FileText.{HasFacts};
 ghost use Rattle.module_table.specs.Facts.{Facts, AreFacts, clause_head, file_said};
@@ -21,7 +19,8 @@ ghost use Rattle.import_rules.specs.Program.{Seen, IsProgram, IsImportStop, IsKn
 ghost use Rattle.call_edges.specs.Calls.{IsMetInClause, IsAmong, NodeCalls};
 ghost use Rattle.call_edges.specs.CallPlaces.{CallAt, IsCallOf};
 ghost use Rattle.call_edges.specs.FileOrder.{start_in};
-ghost use Rattle.call_edges.specs.Goals.{Met, Rows, place, IsMet};
+ghost use Rattle.call_edges.specs.declared.role.Role.{Role};
+ghost use Rattle.call_edges.specs.Goals.{Met, Rows, goal_role, place, IsMet};
 ghost use Rattle.call_edges.specs.GoalFaults.{IsGoalFault};
 ghost use Rattle.call_edges.specs.KeptGoals.{IsMetInGoal, IsMetInForm};
 ghost use Rattle.call_edges.specs.Roots.{IsRoot};
@@ -42,8 +41,8 @@ pub fn plain_forms()
     ensures met { (T : Rows) (owner : List ℕ) (tree : Tree) (clause : PlainClause) (m : Met) → plain_clause tree ≡ Some clause
         → IsMetInClause T owner tree m ↔ IsMetInForm T owner clause.body m }
     ensures body { (T : Rows) (owner : List ℕ) (body : Tree) (m : Met)
-        → IsMet T (place owner (Goal 0) body) m ↔ IsAmong (IsMetInGoal T owner) (body_goals body) m }
-    ensures silent { (T : Rows) (owner : List ℕ) (role : GoalArg) (tree : Tree) (m : Met) → silent tree ≡ true → IsMet T (place owner role tree) m → ⊥ }
+        → IsMet T (place owner goal_role body) m ↔ IsAmong (IsMetInGoal T owner) (body_goals body) m }
+    ensures silent { (T : Rows) (owner : List ℕ) (role : Role) (tree : Tree) (m : Met) → silent tree ≡ true → IsMet T (place owner role tree) m → ⊥ }
 {}
 
 /// A plain tree is a directive exactly if its clause is, and then the same one. It defines the same

@@ -6,8 +6,8 @@
 //! are, with the span of the clause. A plain tree is the clause again, with nothing but variables
 //! where arguments were. In `p(f(X), a) :- ( q(X), r(s) ; t ).` the goals `q(X)` and `t` are such
 //! calls, and `r(s)` stays as it is, since a program may declare that its argument is a goal. So
-//! does a goal of more than 63 arguments, or one past the offset 8,388,607: these two numbers fit
-//! in 29 bits. A clause with such a head, or past that offset, has no plain form.
+//! does a negation, and a goal of more than 63 arguments, or one past the offset 8,388,607: these two
+//! numbers fit in 29 bits. A clause with such a head, or past that offset, has no plain form.
 //!
 //! No code is here. The functions do nothing, and are called for what they ensure:
 //!

@@ -13,6 +13,6 @@ returns-clause-sides c =
     let v = c.in_ok-number in
     let pair : Binary = record { name = name_at c.args.term.now.names.now v.number; left = tree_of v.left; right = tree_of v.right } in
     let is : binary tree ≡ Some pair = sym v.ensures.trees in
-    let control : way c.args.role pair.name 2 ≡ Control =
+    let control : way c.args.role.arg pair.name 2 ≡ Control =
     c.has_controls.ensures.way c.if-not-has_controls.false pair.name 2 ∙ c.is_control.ensures c.if-not-is_control.false in
     parted c.args.role (c.has_controls.ensures.settled c.if-not-has_controls.false) tree pair is control

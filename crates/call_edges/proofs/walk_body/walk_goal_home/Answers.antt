@@ -1,4 +1,4 @@
-use Rattle.std.proofs.Common.{◌≡◌, ℕ, ◌++◌, ◌∷◌, List, [], Option, Some, ap, sym, ◌∙◌, subst}
+use Rattle.std.proofs.Common.{◌≡◌, ℕ, ◌++◌, ◌∷◌, List, [], Option, Some, false, ap, sym, ◌∙◌, subst}
 use Rattle.prolog_names.specs.Names.{name_at}
 use Rattle.import_rules.specs.Program.{found}
 use Rattle.kept_clauses.specs.declared.kept_clause.KeptGoal.{KeptGoal}
@@ -33,9 +33,9 @@ returns-in-Call-clause-met c =
     let name = name_at names one.number in
     let old = see_mets c.args.met.now.items in
     let P : KeptGoal → List Met → Type 0 = λ goal mets. Adds (IsMetInGoal T owner (see_goal names goal)) old mets in
-    let adds : P (Call one) (old ++ call one.at owner name one.arity ∷ []) = call_added T owner one.at name one.arity old in
-    let named : old ++ call one.at owner name one.arity ∷ [] ≡ old ++ call one.at c.as_str.result.now c.text.result.now one.arity ∷ [] =
-    λ i. old ++ call one.at (sym c.as_str.ensures i) (sym c.text.ensures i) one.arity ∷ [] in
+    let adds : P (Call one) (old ++ call one.at owner name one.arity 0 false ∷ []) = call_added T owner one.at name one.arity old in
+    let named : old ++ call one.at owner name one.arity 0 false ∷ [] ≡ old ++ call one.at c.as_str.result.now c.text.result.now one.arity 0 false ∷ [] =
+    λ i. old ++ call one.at (sym c.as_str.ensures i) (sym c.text.ensures i) one.arity 0 false ∷ [] in
     on_ok c.push_met.result c.push_met.ensures.mets (λ is.
     subst (λ (goal : KeptGoal). P goal (see_mets c.push_met.new.met.items)) (sym c.in-Call.is) (subst (P (Call one)) (named ∙ sym is) adds))
 
@@ -49,5 +49,5 @@ returns-in-Call-clause-meant c =
     let is : c.find-callee.result ≡ found seen c.as_str.result.now c.text.result.now one.arity =
     c.find-callee.ensures ∙ (λ i. found seen (sym c.as_str.ensures i) (named i) one.arity) in
     let meant = subst (λ (o : Option ℕ). IsMeaning o c.meaning_found.result) is c.meaning_found.ensures in
-    let met = Some (kept.Call one.at c.as_str.result c.text.result one.number one.arity c.meaning_found.result) in
+    let met = Some (kept.Call one.at c.as_str.result c.text.result one.number one.arity 0 false c.meaning_found.result) in
     on_ok c.push_met.result c.push_met.ensures.kept (λ more. meant_more seen c.args.met.now.items c.push_met.new.met.items met more meant)

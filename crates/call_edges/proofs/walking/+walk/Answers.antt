@@ -7,7 +7,7 @@ use Rattle.prolog_terms.specs.Terms.{tree_of, trees_of}
 use Rattle.prolog_terms.specs.Views.{trees_in}
 use Rattle.prolog_terms.specs.Weight.{weight}
 use Rattle.prolog_terms.proofs.ViewLemmas.{count_weight}
-use Rattle.module_table.specs.declared.goal_arg.GoalArg.{GoalArg}
+use Rattle.call_edges.specs.declared.role.Role.{Role}
 use Rattle.call_edges.specs.Goals.{atom_met, constant_met, place, taken, AddsMet}
 use Rattle.call_edges.specs.ProgramRows.{rows_of}
 use Rattle.call_edges.specs.Seen.{see_mets, see_taken}
@@ -126,7 +126,7 @@ loop-at-preserved t c =
     let old = see_mets c.args.met.now.items in
     let mid = see_mets c.loop-at.met.items in
     let new = see_mets c.walk-in-loop-at.new.met.items in
-    let P : GoalArg → Type 0 = λ role. AddsMet T (place apart.module_ role tree) mid new in
+    let P : Role → Type 0 = λ role. AddsMet T (place apart.module_ role tree) mid new in
     record {
       met =
           first_more T apart (map tree_of items) k tree old mid new (read_seen items k c.arg-item.result c.loop-at-test.true c.arg-item.is) c.loop-at.invariant.met
@@ -180,7 +180,7 @@ returns-in-Some-only-clause-met t c =
     let old = see_mets c.args.met.now.items in
     let mid = see_mets c.push_met-in-Compound.new.met.items in
     let new = see_mets c.walk.new.met.items in
-    let P : GoalArg → Type 0 = λ role. AddsMet T (place here.module_ role own) mid new in
+    let P : Role → Type 0 = λ role. AddsMet T (place here.module_ role own) mid new in
     on_ok c.walk.result c.walk.ensures.met (λ adds.
     compound_walked T owner role tree old new v.name.now args v.form span here (trees_in args) 1 v.ensures.tree refl apart
     (omega (arith, ap (λ ts. length (trees_in ts)) (only_seen args own one)))
@@ -205,8 +205,8 @@ returns-in-Some-pair-clause-met t c =
     let mid = see_mets c.push_met-in-Compound.new.met.items in
     let between = see_mets c.walk-in-Some-pair.new.met.items in
     let new = see_mets c.walk-in-Some-pair-2.new.met.items in
-    let P : GoalArg → Type 0 = λ role. AddsMet T (place here.module_ role left) mid between in
-    let Q : GoalArg → Type 0 = λ role. AddsMet T (place here.module_ role right) between new in
+    let P : Role → Type 0 = λ role. AddsMet T (place here.module_ role left) mid between in
+    let Q : Role → Type 0 = λ role. AddsMet T (place here.module_ role right) between new in
     on_ok c.walk-in-Some-pair-2.result c.walk-in-Some-pair-2.ensures.met (λ adds.
     compound_walked T owner role tree old new v.name.now args v.form span here (trees_in args) 2 v.ensures.tree refl apart
     (omega (arith, ap (λ ts. length (trees_in ts)) (pair_seen args left right two)))
@@ -254,7 +254,7 @@ returns-in-Const-clause-met t c =
     let new = see_mets c.push_met-in-Const.new.met.items in
     on_ok c.push_met-in-Const.result c.push_met-in-Const.ensures.mets (λ adds.
     constant_walked T owner role tree old new v.kind v.minus v.value span v.ensures.tree
-    (adds ∙ (ap (λ o. old ++ option_to_list o) c.constant_met.ensures.met ∙ ap (λ (s : Span). old ++ option_to_list (constant_met role v.kind s.from)) c.span.ensures)))
+    (adds ∙ (ap (λ o. old ++ option_to_list o) c.constant_met.ensures.met ∙ ap (λ (s : Span). old ++ option_to_list (constant_met role.arg v.kind s.from)) c.span.ensures)))
 
 pub returns-in-Atom-clause-met : goal.returns-in-Atom-clause-met
 returns-in-Atom-clause-met t c =

@@ -1,5 +1,6 @@
 use Rattle.std.proofs.Common.{◌≡◌, ◌+◌, ◌++◌, ◌∷◌, [], map, take, ap, sym, ◌∙◌, append_assoc}
 use Rattle.std.proofs.lemmas.List.{map-append, take_more}
+use Rattle.prolog_terms.specs.declared.term.Span.{Span}
 use Rattle.clause_text.specs.Clauses.{clause_tree}
 use Rattle.call_table.specs.Clauses.{clause_at}
 use Rattle.call_table.proofs.clauses.push_clauses.Goals as goal
@@ -18,6 +19,6 @@ loop-clause-preserved c =
     ap (λ xs. map f (map tree xs)) more
     ∙ (ap (map f) (map-append tree (take k clauses) (clause ∷ [])) ∙ map-append f (map tree (take k clauses)) (tree clause ∷ [])) in
     c.in_ok-push.ensures.items
-    ∙ (ap (λ at. c.loop-clause.out.items ++ record { file = c.args.file; offset = at; node = c.args.node } ∷ []) c.start.ensures
+    ∙ (ap (λ (span : Span). c.loop-clause.out.items ++ record { file = c.args.file; offset = span.from; end = span.to; node = c.args.node } ∷ []) c.span-span.ensures
     ∙ (ap (λ xs. xs ++ f (tree clause) ∷ []) c.loop-clause.invariant
     ∙ (append_assoc before sofar (f (tree clause) ∷ []) ∙ ap (λ xs. before ++ xs) (sym split))))

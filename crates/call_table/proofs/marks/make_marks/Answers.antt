@@ -14,4 +14,6 @@ returns c = record {
   by_export_are = c.in_ok-by_export.ensures;
   by_directive_are = c.in_ok-by_directive.ensures;
   by_file_are = c.in_ok-by_file.ensures;
+  dynamic_are = c.in_ok-dynamic.ensures;
+  multifile_are = c.in_ok-multifile.ensures;
 }

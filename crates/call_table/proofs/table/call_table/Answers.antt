@@ -21,14 +21,14 @@ returns g c =
     let same = c.in_ok-order.ensures.same in
     let found = c.in_ok-clauses in
     let clauses_told =
-    clauses_same seen order nodes same found.clauses.items found.clause_places.items
-    (subst (λ ps. ArePlacedClauses seen ps found.clauses.items found.clause_places.items) c.deref.ensures.value found.ensures.clauses) in
+    clauses_same seen order nodes same found.clauses.items found.clause_extents.items
+    (subst (λ ps. ArePlacedClauses seen ps found.clauses.items found.clause_extents.items) c.deref.ensures.value found.ensures.clauses) in
     let calls_told =
     calls_same seen order nodes same found.calls.items found.call_places.items
     (subst (λ ps. ArePlacedCalls seen ps found.calls.items found.call_places.items) c.deref.ensures.value found.ensures.calls) in
     record {
       clauses = clauses_told.are;
-      clause_places = clauses_told.placed;
+      clause_extents = clauses_told.placed;
       calls = calls_told.are;
       call_places = calls_told.placed;
       groups_are =

@@ -4,6 +4,7 @@ use Rattle.std.specs.List.{AllZip}
 use Rattle.std.specs.String.{string_bytes}
 use Rattle.std.specs.declared.alloc.AllocError.{AllocError}
 use Rattle.rayon.proofs.ToStd.{slice-AllZip}
+use Rattle.prolog_tokens.specs.declared.token.Place.{Place}
 use Rattle.call_edges.specs.declared.placed_calls.PlacedCall.{PlacedCall}
 use Rattle.call_told.specs.Stretches.{call_stretch}
 use Rattle.call_told.specs.declared.stretches.Stretch.{Stretch}
@@ -18,9 +19,9 @@ returns g c =
     let chain = h.1 in
     let made =
     subst
-    (λ f. AllZip (λ (s : Bor (Stretch PlacedCall)) (one : Result (String Global) AllocError). IfOk one (λ text. string_bytes text ≡ call_stretch f.2.now (f.1.now) s.now)) chain.0 h.0)
+    (λ f. AllZip (λ (s : Bor (Stretch PlacedCall Place)) (one : Result (String Global) AllocError). IfOk one (λ text. string_bytes text ≡ call_stretch f.2.now (f.1.now) s.now)) chain.0 h.0)
     c.map.ensures.f chain.2 in
     texts_found (λ v. v.items) (call_stretch c.args.undefined c.args.program.now) stretches h.0 _
     (slice-AllZip chain.0 stretches (chain.1 ∙ slice)
-    (λ (s : Stretch PlacedCall) (one : Result (String Global) AllocError). IfOk one (λ text. string_bytes text ≡ call_stretch c.args.undefined c.args.program.now s)) h.0 made)
+    (λ (s : Stretch PlacedCall Place) (one : Result (String Global) AllocError). IfOk one (λ text. string_bytes text ≡ call_stretch c.args.undefined c.args.program.now s)) h.0 made)
     h.2

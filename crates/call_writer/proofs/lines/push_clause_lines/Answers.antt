@@ -9,8 +9,8 @@ pub loop-clause-preserved : goal.loop-clause-preserved
 loop-clause-preserved c = (
   c.in_ok-push_clause.ensures.program ∙ c.loop-clause.invariant.0,
   line_more (λ pair. clause_line c.args.program.now pair.0 pair.1) c.loop-clause.clause-iterator.a.rest.now c.next.new.self.a.rest.now
-      c.loop-clause.clause-iterator.b.rest.now c.next.new.self.b.rest.now c.in-Some.clause.now c.in-Some.place.now (string_bytes c.loop-clause.text) (string_bytes c.push_clause.new.text) _
-      c.in-Some.ensures.steps.0 c.in-Some.ensures.steps.1 (c.in_ok-push_clause.ensures.text ∙ ap (λ seen. string_bytes c.loop-clause.text ++ clause_line seen c.in-Some.clause.now c.in-Some.place.now) c.loop-clause.invariant.0) c.loop-clause.invariant.1,
+      c.loop-clause.clause-iterator.b.rest.now c.next.new.self.b.rest.now c.in-Some.clause.now c.in-Some.extent.now (string_bytes c.loop-clause.text) (string_bytes c.push_clause.new.text) _
+      c.in-Some.ensures.steps.0 c.in-Some.ensures.steps.1 (c.in_ok-push_clause.ensures.text ∙ ap (λ seen. string_bytes c.loop-clause.text ++ clause_line seen c.in-Some.clause.now c.in-Some.extent.now) c.loop-clause.invariant.0) c.loop-clause.invariant.1,
 )
 
 pub returns : goal.returns

@@ -10,4 +10,4 @@ invariant-loop-clause l =
     (l.last.program.now ≡ l.program)
     × (string_bytes l.text
     ++ lines_of (λ pair. clause_line l.program pair.0 pair.1) l.clause-iterator.a.rest.now l.clause-iterator.b.rest.now
-    ≡ string_bytes l.initial.text ++ lines_of (λ pair. clause_line l.program pair.0 pair.1) l.clauses l.places)
+    ≡ string_bytes l.initial.text ++ lines_of (λ pair. clause_line l.program pair.0 pair.1) l.clauses l.extents)

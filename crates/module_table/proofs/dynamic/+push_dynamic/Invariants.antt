@@ -14,4 +14,4 @@ decreases-push_dynamic l = depth (tree_of l.term.now)
 -- the items so far are added
 abbrev pub invariant-loop-item : goal.invariant-loop-item
 invariant-loop-item l =
-    IsAdded l.term.names.now l.initial.kinds (each_said (dynamic_at Item (name_at l.term.names.now l.owner)) (map tree_of (take l.item-index l.item-items))) l.kinds
+    IsAdded l.term.names.now l.initial.kinds (each_said (dynamic_at l.property Item (name_at l.term.names.now l.owner)) (map tree_of (take l.item-index l.item-items))) l.kinds

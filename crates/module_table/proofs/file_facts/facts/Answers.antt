@@ -28,6 +28,7 @@ returns-clause-only c = λ other are.
       loads = kinds.loads;
       defined = c.in_ok-defined.defined;
       metas = kinds.takes;
+      marks = kinds.marks;
       goals = kinds.goals;
     } in
     let mine : AreFacts c.args.file.now trees (see_facts (found names)) = record {
@@ -39,6 +40,7 @@ returns-clause-only c = λ other are.
         loads = said.are.loads;
         defined = subst (λ ds. AreDefined ds (map (see_defined names) c.in_ok-defined.defined.items)) said.are.definitions c.in_ok-defined.ensures;
         metas = said.are.takes;
+        marks = said.are.marks;
         goals = said.are.goals;
       };
     } in
