@@ -23,7 +23,7 @@ pub struct ClauseAt {
     pub node: u32,
 }
 
-/// Adds where these clauses stand, whose names are numbers in `names`.
+/// Adds the positions of these clauses, whose names are numbers in `names`.
 fn push_clauses(
     file: u32,
     node: u32,
@@ -45,7 +45,7 @@ fn push_clauses(
     Ok(())
 }
 
-/// Adds where the clauses of a predicate stand.
+/// Adds the positions of the clauses of a predicate.
 fn push_clauses_of(program: &Program, node: u32, out: &mut Vec<ClauseAt>) -> Result<(), AllocError>
     requires { node < length program.now.predicates }
     ensures { OnOk result (out.new.items ≡ out.old.items ++ clauses_in program.now node) }
@@ -60,7 +60,7 @@ fn push_clauses_of(program: &Program, node: u32, out: &mut Vec<ClauseAt>) -> Res
     Ok(())
 }
 
-/// Where the clauses of these predicates stand, in the order of the predicates.
+/// The positions of the clauses of these predicates, in the order of the predicates.
 fn clauses_from(
     alloc: Global,
     program: &Program,

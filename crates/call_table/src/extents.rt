@@ -59,7 +59,7 @@ fn ends_of(alloc: Global, program: &Program, clauses: &[ClauseAt]) -> Result<Vec
     Ok(places)
 }
 
-/// Each start with the end beside it.
+/// Each start with the end at the same index.
 fn side_by_side(alloc: Global, starts: &[Place], ends: &[Place]) -> Result<Vec<Extent>, AllocError>
     ensures { IfOk result (λ extents. extents.items ≡ map extent (zip starts.now ends.now)) }
 {

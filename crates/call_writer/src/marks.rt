@@ -102,7 +102,7 @@ fn root_text(marks: NodeMarks) -> &'static str
     reasons_text(marks.by_export, marks.by_directive, marks.by_file)
 }
 
-/// What directives declare of a predicate. It stands after why reachability begins there, and ends
+/// What directives declare of a predicate. It comes after why reachability begins there, and ends
 /// the line.
 fn last_fields(dynamic: bool, multifile: bool) -> &'static str
     ensures { result.now ≡ codes "]" ++ (declared_fields dynamic multifile ++ codes "}\n") }
