@@ -369,7 +369,8 @@ def lines_of(words, path):
         if said["is"] == "predicate":
             names[said["id"]] = f"{said['module']}:{said['name']}/{said['arity']}"
         elif said["is"] in ("clause", "call") and said.get("caller", 0) is not None and os.path.basename(said["file"]) == path.name:
-            goal = (said["module"], said["name"], said["arity"]) if said["is"] == "call" else ()
+            more = ("module", "name", "arity", "added", "negated") if said["is"] == "call" else ("end_line", "end_column")
+            goal = tuple(said[it] for it in more)
             lines.add((names[said.get("caller", said.get("predicate"))], goal, said["line"], said["column"]))
     return lines
 

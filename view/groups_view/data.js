@@ -5,6 +5,11 @@ const isOneModule = modules.length === 1;
 
 const label = p => `${modules[predicates[p][0]]}:${predicates[p][1]}`;
 const shortLabel = p => isOneModule ? predicates[p][1] : label(p);
+// What is declared of a predicate, and why it is an entry point: a bit each.
+const MARKS = ["exported", "dynamic", "multifile"], ROOTS = ["export", "directive", "file", "--roots"];
+const marksOf = p => MARKS.filter((_, at) => predicates[p][3] >> at & 1);
+const rootsOf = p => ROOTS.filter((_, at) => predicates[p][3] >> MARKS.length + at & 1);
+const isEntry = p => predicates[p][3] >> MARKS.length > 0;
 const indexOf = names => new Map(names.map((name, at) => [name, at]));
 const labels = predicates.map((_, p) => label(p));
 const byLabel = indexOf(labels), byOther = indexOf(others), byModule = indexOf(modules);
@@ -29,6 +34,10 @@ function invert(rows, sources, counts) {
   return sum;
 }
 const callCount = invert(callees, callers, called) + invert(outside, otherCallers, otherCalled);
+// Of calls of directives by the index of a predicate, or -1 less that of another name: places, and how many more.
+for (const [target, [places, more]] of Object.entries(data.directives)) {
+  if (target < 0) otherCalled[-1 - target] += places.length + more;
+}
 
 // Of the names that mean no predicate those that SWI-Prolog doesn't define either, if it was asked.
 const undefinedNames = data.undefined && new Set(data.undefined);

@@ -45,8 +45,9 @@ class Program:
     """All fields of the lines that a page needs."""
 
     predicates: list = dataclasses.field(default_factory=list)
-    clauses: list = dataclasses.field(default_factory=list)  # (file, line, column, predicate)
+    clauses: list = dataclasses.field(default_factory=list)  # (file, start, end, predicate), each place (line, column)
     calls: list = dataclasses.field(default_factory=list)  # (file, line, column, caller, callee, name, arity)
+    directives: list = dataclasses.field(default_factory=list)  # (file, line, column, callee, name, arity)
     files: dict = dataclasses.field(default_factory=dict)  # numbers by names
 
 
@@ -103,13 +104,16 @@ def parse(text):
             if kind == "predicate":
                 program.predicates.append(it)
                 continue
-            if kind not in ("clause", "call") or it.get("directive"):
+            if kind not in ("clause", "call"):
                 continue
-            place = (program.files.setdefault(it["file"], len(program.files)), it["line"], it["column"])
+            file = program.files.setdefault(it["file"], len(program.files))
+            place = it["line"], it["column"]
             if kind == "clause":
-                program.clauses.append((*place, it["predicate"]))
+                program.clauses.append((file, place, (it["end_line"], it["end_column"]), it["predicate"]))
+            elif it.get("directive"):
+                program.directives.append((file, *place, it["callee"], it["name"], it["arity"]))
             else:
-                program.calls.append((*place, it["caller"], it["callee"], it["name"], it["arity"]))
+                program.calls.append((file, *place, it["caller"], it["callee"], it["name"], it["arity"]))
     except (ValueError, KeyError, TypeError) as error:
         raise Failed(USAGE, f"these are no lines of calls: {type(error).__name__}: {str(error)[:200]!a}") from error
     return program

@@ -22,6 +22,7 @@ function groupEntry(g) {
 function isListed(g) {
   const [height, recursive] = groups[g];
   if (heights && (height < heights[0] || height > heights[1])) return false;
+  if (filter.value === "entry") return groups[g][2].some(isEntry);
   return filter.value === "all" || (filter.value === "recursive" ? recursive : height < 0);
 }
 function foundPredicates(words) {

@@ -49,12 +49,12 @@ class Names:
         self.modules, self.predicates = data["modules"], data["predicates"]
 
     def full(self, at):
-        module, shown, _ = self.predicates[at]
+        module, shown, *_ = self.predicates[at]
         return f"{self.modules[module]}:{shown}"
 
     def after(self, before, at):
         """As it is called in a list, in which the module is named where it changes."""
-        module, shown, _ = self.predicates[at]
+        module, shown, *_ = self.predicates[at]
         is_same = before is not None and self.predicates[before][0] == module
         return short(shown if len(self.modules) == 1 or is_same else self.full(at))
 

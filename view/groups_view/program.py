@@ -6,6 +6,10 @@ from groups_view import lines, sources
 from groups_view.names import atom
 
 MOST_NOTES = 500
+MOST_DIRECTIVES = 40  # of one predicate or name
+# What a predicate is, by one bit each, as data.js has them.
+MARKS = ("exported", "dynamic", "multifile")
+ROOTS = ("export", "directive", "file", "roots")
 
 
 def groups_of(predicates):
@@ -48,6 +52,25 @@ class Calls:
         return self.others.setdefault(label, len(self.others))
 
 
+def marks_of(predicate):
+    """What is declared of a predicate, and why it is an entry point, as one number."""
+    holds = [*(predicate[it] for it in MARKS), *(it in predicate["root"] for it in ROOTS)]
+    return sum(1 << at for at, it in enumerate(holds) if it)
+
+
+def directives_of(program, numbers, calls):
+    """Where goals of directives call what: the first few places, and how many more there are. A name that means no predicate is -1 less its index."""
+    found = {}
+    for *place, callee, name, arity in program.directives:
+        target = numbers[callee] if callee is not None else -1 - calls.other(name, arity)
+        row = found.setdefault(target, [[], 0])
+        if len(row[0]) < MOST_DIRECTIVES:
+            row[0].append(place)
+        else:
+            row[1] += 1
+    return found
+
+
 def flat(rows):
     return [[it for pair in sorted(row.items()) for it in pair] for row in rows]
 
@@ -60,10 +83,11 @@ def data_of(read, title):
     modules = {name: at for at, name in enumerate(sorted({it["module"] for it in program.predicates}))}
     groups, group_of = groups_of(program.predicates)
     calls = Calls(program, numbers)
+    directives = directives_of(program, numbers, calls)
     shown = sources.Shown(len(program.predicates))
     by_file = collections.defaultdict(list)
-    for file, line, column, predicate in program.clauses:
-        by_file[file].append((line, column, numbers[predicate]))
+    for file, start, end, predicate in program.clauses:
+        by_file[file].append((start, end, numbers[predicate]))
     names = list(program.files)
     for file, clauses in by_file.items():
         shown.add_file(file, names[file], clauses, calls.targets[file], read.since)
@@ -73,10 +97,11 @@ def data_of(read, title):
         "files": names,
         "modules": [atom(name) for name in modules],
         "predicates": [
-            [modules[it["module"]], f"{atom(it['name'])}/{it['arity']}", group]
+            [modules[it["module"]], f"{atom(it['name'])}/{it['arity']}", group, marks_of(it)]
             for it, group in zip(program.predicates, group_of)
         ],
         "groups": groups,
+        "directives": directives,
         "callees": flat(calls.callees),
         "outside": flat(calls.outside),
         "others": list(calls.others),

@@ -1,7 +1,7 @@
 """The text of clauses, with the called names in it as links.
 
-`calls` says where a clause and a goal start. So this reads tokens of Prolog to find where a clause ends, and which
-token of a goal is its name."""
+`calls` says where a clause starts and ends, and where a goal starts. So this reads tokens of Prolog to find which token
+of a goal is its name."""
 
 import bisect
 import os
@@ -26,9 +26,6 @@ TOKEN = re.compile(
     re.S,
 )
 WORD = re.compile(r"\w")
-FULL_STOP = re.compile(r"(?<![-+*/\\^<>=~:.?@#&$])\.(?=[\s%]|\Z)")
-# What a full stop could be inside of.
-OPENING = re.compile(r"['\"`%]|/\*")
 
 
 class Source:
@@ -55,29 +52,12 @@ class Source:
         self.starts = [0] + [it.end() for it in re.finditer("\n", self.text)]
 
     def offset(self, line, column):
-        """Where that position is in the text; None if there is no such position."""
+        """Where that position is in the text, its end too; None if there is no such position."""
         if self.text is None or line > len(self.starts):
             return None
         offset = self.starts[line - 1] + column - 1
-        end = self.starts[line] if line < len(self.starts) else len(self.text)
-        return offset if offset < end else None
-
-    def end(self, start, limit):
-        """Where the clause that starts there ends, at most at `limit`."""
-        quick = FULL_STOP.search(self.text, start, limit)
-        if quick and not OPENING.search(self.text, start, quick.end()):
-            return quick.end()
-        at, last = start, start
-        while at < limit:
-            found = TOKEN.match(self.text, at, min(limit, start + 4 * MOST_TEXT))
-            if not found:
-                return limit
-            token, at = found.group(), found.end()
-            if token == "." and (at >= len(self.text) or self.text[at] in " \n\t\r%"):
-                return at
-            if not (token.isspace() or token[0] == "%" or token.startswith("/*")):
-                last = at
-        return last
+        end = self.starts[line] - 1 if line < len(self.starts) else len(self.text)
+        return offset if offset <= end else None
 
 
 def decode(data):
@@ -118,41 +98,27 @@ class Shown:
         self.lost = []  # what is to be said of sources without text
 
     def add_file(self, file, name, clauses, targets, since):
-        """Adds the clauses (line, column, predicate) of a file whose calls are (line, column, target, name)."""
+        """Adds the clauses (start, end, predicate) of a file whose calls are (line, column, target, name)."""
         source = Source(name, since)
         if source.why:
             self.lost.append(f"{name} {source.why}: its clauses are shown without their text")
         clauses.sort()
         targets.sort(key=lambda it: it[:2])
         places = [it[:2] for it in targets]
-        ends = places_after(clauses)
-        for (line, column, predicate), after in zip(clauses, ends):
+        for start, end, predicate in clauses:
             if len(self.clauses[predicate]) >= MOST_CLAUSES:
                 self.more[predicate] += 1
                 continue
-            first = bisect.bisect_left(places, (line, column))
-            last = bisect.bisect_left(places, after, first) if after else len(places)
-            text = clause_text(source, (line, column), after, targets, range(first, last))
-            self.clauses[predicate].append([file, line, column, *text])
+            inside = range(bisect.bisect_left(places, start), bisect.bisect_left(places, end))
+            self.clauses[predicate].append([file, *start, *clause_text(source, start, end, targets, inside)])
 
 
-def places_after(clauses):
-    """The next place of a clause after each; several clauses have one place if one text stands for them."""
-    after, found = None, []
-    for at in range(len(clauses) - 1, -1, -1):
-        if at + 1 < len(clauses) and clauses[at + 1][:2] != clauses[at][:2]:
-            after = clauses[at + 1][:2]
-        found.append(after)
-    return found[::-1]
-
-
-def clause_text(source, place, after, targets, inside):
-    """The text of the clause from `place`, at most up to `after`, and its links; nothing without a source."""
-    start = source.offset(*place)
-    if start is None:
+def clause_text(source, first, last, targets, inside):
+    """The text of the clause at these places and its links, and its full stop if that follows; nothing without a source."""
+    start, end = source.offset(*first), source.offset(*last)
+    if start is None or end is None:
         return []
-    limit = source.offset(*after) if after else None
-    end = source.end(start, len(source.text) if limit is None else limit)
+    end += source.text.startswith(".", end)
     text = source.text[start : min(end, start + MOST_TEXT)]
     found = {}
     for at in inside:

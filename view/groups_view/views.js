@@ -14,7 +14,8 @@ function showPredicate(p) {
   main.append(
     make("h1", {}, make("bdi", {}, labels[p])),
     make("p", {}, recursive ? groupLink : null, tag(heightText(height)), moduleLink,
-      tag(many(clauses.length + more, "clause"))),
+      tag(many(clauses.length + more, "clause")), ...marksOf(p).map(tag),
+      isEntry(p) ? tag(`entry point: ${rootsOf(p).join(", ")}`) : null),
     twoSides(
       `Called by (${number(callers[p].length / 2)})`, namesWithCounts(callers[p], toPredicate, NONE),
       `Calls (${number(callees[p].length / 2)})`, namesWithCounts(callees[p], toPredicate, NONE)));
@@ -23,11 +24,20 @@ function showPredicate(p) {
     const names = longList("ul", { class: "flow" }, [...pairsOf(outside[p])], item, 60);
     main.append(title("Calls, not in these files"), names);
   }
+  showDirectives(data.directives[p]);
   if (recursive) showCycleThrough(p, members);
   main.append(title("Clauses"));
   if (!clauses.length) main.append(note("It has none in these files: it is declared, or written in another language."));
   main.append(longList("div", {}, clauses, clauseBox, 20));
   if (more) main.append(note(`${many(more, "more clause")}, whose text isn't in this page.`));
+}
+// Where goals of directives call it, if some do.
+function showDirectives(row) {
+  if (!row) return;
+  const [places, more] = row, item = ([file, line, column]) => make("li", {}, `${data.files[file]}:${line}:${column}`);
+  main.append(title(`Called by directives (${number(places.length + more)})`),
+    make("ul", { class: "names" }, ...places.map(item)));
+  if (more) main.append(note(`${many(more, "more call")}, whose positions aren't in this page.`));
 }
 function showCycleThrough(p, members) {
   const way = cycleThrough(p, Math.min(2, members.length), null);
@@ -122,6 +132,7 @@ function showOther(o) {
     make("h1", {}, make("bdi", {}, others[o])), note(why),
     title(`Called by (${number(otherCallers[o].length / 2)})`),
     namesWithCounts(otherCallers[o], toPredicate, "nothing"));
+  showDirectives(data.directives[-1 - o]);
 }
 
 function showModule(m) {

@@ -13,6 +13,7 @@ at(Text, Offset), with the offset in characters from 0.
             export/3,               % Number, Name, Arity
             exported_operator/4,    % Number, Priority, Type, Names
             item/3,                 % Number, Place, What
+            term_end/3,             % Text, Offset, End
             defined/3,              % Module, Name, Arity
             meta/4,                 % Module, Name, Arity, Modes
             load/5,                 % Load, Number, Place, Target, How
@@ -56,6 +57,10 @@ at(Text, Offset), with the offset in characters from 0.
     A part of a clause is goal(Goal, Position) or grammar(Body, Position), and Expansions the number
     of facts of goal_expansion/2 that were read before it.
 */
+/** term_end(?Text, ?Offset, ?End)
+
+    Where a term ends that starts at the offset, before its full stop.
+*/
 /** again(?Number, ?Load, ?Kind, ?Which)
 
     What the load brings the file exports again. Kind and Which are those of the load's target.
@@ -66,7 +71,7 @@ at(Text, Offset), with the offset in characters from 0.
     `only` (what pick/4 lists) or `except` (all but what drop/3 lists; pick/4 has new names).
 */
 :- dynamic
-    option/1, source/3, home/4, text/3, export/3, exported_operator/4, item/3, defined/3, meta/4,
+    option/1, source/3, home/4, text/3, export/3, exported_operator/4, item/3, term_end/3, defined/3, meta/4,
     load/5, again/4, pick/4, drop/3, module_load/3, handles_rules/1, foreign/1, testing/1,
     expansion/6.
 

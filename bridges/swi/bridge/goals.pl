@@ -1,13 +1,14 @@
 /** <module> What a body calls
 
-A walk over goals and grammar bodies that yields call(Module, Name, Arity, Offset) for each goal, in
-their order. Where a predicate takes goals, what it is given is walked too, with the arguments that
-are added to it.
+A walk over goals and grammar bodies that yields call(Module, Name, Arity, goal(Offset, Added,
+Negated)) for each goal, in their order. Where a predicate takes goals, what it is given is walked
+too, with the arguments that are added to it. Negated is whether a `\+` is around the goal.
 */
 
 :- module(bridge_goals,
           [ calls_in/6,             % +Parts, +Module, +Place, +Expansions, +Tell, -Calls
             calls_of_file/2,        % +Number, -Call
+            called//5,              % +Module, +Name, +Arity, +Offset, +Added
             closure//5,             % +Goal, +Position, +Module, +Added, +Default
             grammar//4              % +Body, +Position, +Module, +Default
           ]).
@@ -28,6 +29,7 @@ calls_in(Parts, Module, Place, Expansions, Tell, Calls) :-
     Place = at(Text, Offset),
     b_setval(bridge_expansions, Expansions),
     b_setval(bridge_used, []),
+    b_setval(bridge_negated, false),
     nb_setval(bridge_expanded, 0),
     b_setval(bridge_told_text, told(Tell, Text)),
     catch(phrase(calls_of(Parts, Module, Offset), Found), Error, true),
@@ -75,7 +77,7 @@ goal((A ; B), At, M, 0, D) --> !, both(A, B, At, M, D).
 goal('|'(A, B), At, M, 0, D) --> !, both(A, B, At, M, D).
 goal((A -> B), At, M, 0, D) --> !, both(A, B, At, M, D).
 goal((A *-> B), At, M, 0, D) --> !, both(A, B, At, M, D).
-goal(\+ A, At, M, 0, D) --> !, { part(1, At, P) }, goal(A, P, M, 0, D).
+goal(\+ A, At, M, 0, D) --> !, { part(1, At, P) }, negated(goal(A, P, M, 0, D)).
 goal(_^A, At, M, 0, D) --> !, { part(2, At, P) }, goal(A, P, M, 0, D).
 goal(Lambda, At, M, Added, D) -->
     { lambda(Lambda, At, Added, Body, P, Left) },
@@ -88,15 +90,28 @@ goal(Goal, At, M, Added, D) -->
       starts(At, D, Off),
       means(M, Name, Arity, Meaning)
     },
-    [call(M, Name, Arity, Off)],
+    called(M, Name, Arity, Off, Added),
     handed(Goal, Name, Arity0, Arity, At, M, Meaning, Off).
 
 % Lambda terms call their bodies; only declarations for `groups` speak of the terms themselves.
 lambda_call(M, Added, D) -->
     (   { option(declare), Arity is Added + 2 }
-    ->  [call(M, >>, Arity, D)]
+    ->  called(M, >>, Arity, D, Added)
     ;   []
     ).
+
+%!  called(+Module, +Name, +Arity, +Offset, +Added)// is det.
+%
+%   A call by the goal that starts at the offset, with so many arguments added to it.
+called(M, Name, Arity, Offset, Added) -->
+    { b_getval(bridge_negated, Negated) },
+    [call(M, Name, Arity, goal(Offset, Added, Negated))].
+
+% What is inside of `\+`.
+negated(Calls) -->
+    { b_getval(bridge_negated, Before), b_setval(bridge_negated, true) },
+    Calls,
+    { b_setval(bridge_negated, Before) }.
 
 both(A, B, At, M, D) -->
     { part(1, At, P), part(2, At, Q) },
@@ -161,7 +176,7 @@ grammar((A ; B), At, M, D) --> !, grammars(A, B, At, M, D).
 grammar('|'(A, B), At, M, D) --> !, grammars(A, B, At, M, D).
 grammar((A -> B), At, M, D) --> !, grammars(A, B, At, M, D).
 grammar((A *-> B), At, M, D) --> !, grammars(A, B, At, M, D).
-grammar(\+ A, At, M, D) --> !, { part(1, At, P) }, grammar(A, P, M, D).
+grammar(\+ A, At, M, D) --> !, { part(1, At, P) }, negated(grammar(A, P, M, D)).
 grammar({Goal}, At, M, D) --> !, { part(1, At, P) }, goal(Goal, P, M, 0, D).
 grammar(Module:Body, At, _, D) -->
     { atom(Module), ! },

@@ -21,7 +21,7 @@ options of predicates of SWI-Prolog that no declaration speaks of.
 handed(_, main, _, 0, _, M, Meaning, D) -->
     { starts_program(Meaning) },
     !,
-    [call(M, main, 1, D)].
+    called(M, main, 1, D, 1).
 handed(_, _, 0, _, _, _, _, _) --> !.
 handed(Goal, Name, Written, Arity, At, M, Meaning, D) -->
     (   { goal_modes(Meaning, M, Name, Arity, Modes), ! }

@@ -8,6 +8,7 @@
           ]).
 
 :- use_module(library(lists)).
+:- use_module(facts).
 :- use_module(names).
 :- use_module(places).
 :- use_module(profile).
@@ -19,10 +20,21 @@ most_calls(400).
 %
 %   What is written on this line comes from Place. To is to(Out, Map, Number, Module, Kind) of the
 %   file.
-begin_line(Place, to(Out, Map, Number, _, _)) :-
+begin_line(Place, To) :- begin_line(Place, '', To).
+
+% Fields are those that `calls` gets from here.
+begin_line(Place, Fields, to(Out, Map, Number, _, _)) :-
     line_count(Out, Written),
     place_line(Place, Text, Line, Column),
-    format(Map, "~d\t~d\t~d\t~d\t~d~n", [Number, Written, Text, Line, Column]).
+    format(Map, "~d\t~d\t~d\t~d\t~d\t~w~n", [Number, Written, Text, Line, Column, Fields]).
+
+% A clause that a directive stands for ends where that ends.
+end_fields(at(Text, Offset), Fields) :-
+    (   term_end(Text, Offset, End)
+    ->  place_line(at(Text, End), _, Line, Column),
+        format(atom(Fields), '"end_line":~d,"end_column":~d', [Line, Column])
+    ;   Fields = ''
+    ).
 
 %!  write_clause(+Calls, +Parts, +Owner, +Name, +Arity, +Place, +To) is det.
 %
@@ -30,7 +42,8 @@ begin_line(Place, to(Out, Map, Number, _, _)) :-
 write_clause(Calls, Parts, Owner, Name, Arity, Place, To) :-
     To = to(Out, _, _, Home, Kind),
     first_calls(Calls, First, Rest),
-    begin_line(Place, To),
+    end_fields(Place, Fields),
+    begin_line(Place, Fields, To),
     put_called(Owner, Home, Kind, Name, Arity, Out),
     (   First \== []
     ->  write(Out, ' :-'),
@@ -65,10 +78,11 @@ first_calls(Calls, First, Rest) :-
         Rest = []
     ).
 
-write_calls([call(M, Name, Arity, Offset)|Calls], Text, To) :-
+write_calls([call(M, Name, Arity, goal(Offset, Added, Negated))|Calls], Text, To) :-
     To = to(Out, _, _, Home, Kind),
     nl(Out),
-    begin_line(at(Text, Offset), To),
+    format(atom(Fields), '"added":~d,"negated":~w', [Added, Negated]),
+    begin_line(at(Text, Offset), Fields, To),
     put_call(M, Home, Kind, Name, Arity, Out),
     (   Calls == []
     ->  write(Out, '.\n')

@@ -9,7 +9,8 @@ Offsets count characters from 0, lines and columns from 1. A tab is one column, 
             bare/2,                 % +Position, -Bare
             part/3,                 % +Number, +Position, -Part
             list_parts/2,           % +Position, -Parts
-            starts/3                % +Position, +Default, -Offset
+            starts/3,               % +Position, +Default, -Offset
+            ends/2                  % +Position, -Offset
           ]).
 
 :- use_module(library(apply)).
@@ -118,4 +119,15 @@ starts(Position, Default, Offset) :-
     ;   compound(Bare), arg(1, Bare, From), integer(From)
     ->  Offset = From
     ;   Offset = Default
+    ).
+
+%!  ends(+Position, -Offset) is semidet.
+%
+%   Where the term ends that is at this position, with its brackets.
+ends(Position, Offset) :-
+    nonvar(Position),
+    (   Position = _-To
+    ->  Offset = To
+    ;   compound(Position), arg(2, Position, To), integer(To)
+    ->  Offset = To
     ).

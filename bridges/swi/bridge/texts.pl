@@ -197,10 +197,18 @@ next_term(Stream, Reading, Conditions, Place, Term, Position) :-
     ->  stream_position_data(char_count, At, Offset),
         Place = at(Text, Offset),
         tell_quoted(Quoted, Conditions, Place),
+        note_end(Place, Found),
         Term = Read,
         Position = Found
     ;   tell_unreadable(Error, Text, Conditions, Stream),
         next_term(Stream, Reading, Conditions, Place, Term, Position)
+    ).
+
+% The end of a file has no position.
+note_end(at(Text, Offset), Position) :-
+    (   ends(Position, End)
+    ->  assertz(term_end(Text, Offset, End))
+    ;   true
     ).
 
 tell_quoted(Quoted, Conditions, Place) :-

@@ -2,8 +2,9 @@
 
 Each file becomes FOLDER/fN.pl: its module, exports, imports and declarations, and of each clause
 the head and every goal that it calls, each on a line of its own, with `_` for each argument.
-FOLDER/places has for each such line `N TAB LINE TAB TEXT TAB LINE TAB COLUMN`, where it comes from,
-and FOLDER/files for each text its rank among the names, its name, and that as a JSON string.
+FOLDER/places has for each such line `N TAB LINE TAB TEXT TAB LINE TAB COLUMN TAB FIELDS`, where it
+comes from, and fields of the line that `calls` prints of it. FOLDER/files has for each text its
+rank among the names, its name, and that as a JSON string.
 FOLDER/words has the new names of the files that arguments name.
 */
 
@@ -73,7 +74,7 @@ write_items(To, Number) :-
 
 write_root(Place, Module, Name, Arity, To) :-
     Place = at(_, Offset),
-    write_directive([call(Module, Name, Arity, Offset)], Place, To).
+    write_directive([call(Module, Name, Arity, goal(Offset, 0, false))], Place, To).
 
 % What a file with a foreign library calls and nothing defines is taken as written in C.
 write_foreign(Number, To) :-
