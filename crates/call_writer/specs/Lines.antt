@@ -109,7 +109,8 @@ group_fields groups levels place =
 abbrev pub predicate_head : ℕ → PredName → List ℕ
 predicate_head node name = codes "{\"is\":\"predicate\",\"id\":" ++ (decimal node ++ (codes "," ++ name_fields name))
 
--- `{"is":"predicate","id":0,"module":"user","name":"p","arity":0,"group":0,"height":1,"recursive":true,"exported":false,"meta":null,"root":["file"],"dynamic":false,"multifile":false}`
+-- `{"is":"predicate","id":0,"module":"user","name":"p","arity":0,"group":0,"height":1,"recursive":true,`, and then
+-- `"exported":false,"meta":null,"root":["file"],"dynamic":false,"multifile":false}`
 abbrev pub predicate_line : List (List ℕ) → List Level → ℕ → PredName → ℕ → NodeMarks → List GoalArg → List ℕ
 predicate_line groups levels node name place marks args =
     predicate_head node name ++ (codes "," ++ (group_fields groups levels place ++ (mark_fields marks args ++ codes "}\n")))

@@ -2,7 +2,7 @@
 //! Graphviz.
 //!
 //! ```text
-//! {"is":"predicate","id":0,"module":"user","name":"p","arity":0,"group":0,"height":1,"recursive":false,"exported":false,"meta":null,"root":["file"],"dynamic":false,"multifile":false}
+//! {"is":"predicate","id":0,"module":"user","name":"p","arity":0,"group":0,"height":1,"recursive":false,..}
 //! {"is":"group","id":0,"height":1,"recursive":false,"members":[0]}
 //! {"is":"clause","predicate":0,"file":"f.pl","line":1,"column":1,"end_line":1,"end_column":7}
 //! {"is":"call","caller":0,"callee":1,"module":"user","name":"q","arity":0,"file":"f.pl","line":1,"column":6,"added":0,"negated":false}

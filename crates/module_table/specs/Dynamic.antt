@@ -76,7 +76,10 @@ abbrev mutual
   dynamic_at property at owner (compound name (more left (more right none)) form span) =
       if is_joint at && bytes_eq name (codes ",") then in_turn (dynamic_at property Joint owner left) (dynamic_at property Joint owner right)
       else if bytes_eq name (codes ":") then
-      elim (atom_name left) [ Some own ↦ dynamic_at property Whole own right | None ↦ refused BadIndicator (compound name (more left (more right none)) form span) ]
+      elim (atom_name left) [
+        | Some own ↦ dynamic_at property Whole own right
+        | None ↦ refused BadIndicator (compound name (more left (more right none)) form span)
+      ]
       else bare_said property owner (compound name (more left (more right none)) form span)
   dynamic_at property at owner (listed items span) = if is_whole at then each_dynamic property owner items else refused BadIndicator (listed items span)
   dynamic_at property at owner (atom name span) = if is_whole at && bytes_eq name (codes "[]") then nothing else refused BadIndicator (atom name span)
