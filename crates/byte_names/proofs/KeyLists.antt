@@ -3,7 +3,7 @@ use Rattle.std.proofs.Common.{◌≡◌, ℕ, ◌+◌, ◌++◌, List, [], ◌�
 use Rattle.std.proofs.lemmas.List.{length_push, map_push}
 use Rattle.std.proofs.lemmas.List.Elements.{All-push, Contains-append_left, Contains-push}
 use Rattle.std.proofs.lemmas.List.Sorted.{All-permutation, Contains-permutation, IsPermutation-map, length_permutation}
-use Rattle.byte_names.specs.declared.ranks.Keyed.{Keyed}
+use Rattle.byte_names.specs.declared.ranked.Keyed.{Keyed}
 use Rattle.byte_names.specs.Keys.{AreKeys, IsKey, places}
 
 pub key_more : (names : List (List ℕ)) (count : ℕ) (keys : List Keyed) (key : Keyed) → AreKeys names count keys → IsKey names key → key.place ≡ count

@@ -9,7 +9,7 @@ use Rattle.std.proofs.lemmas.Bool.{cases_eq}
 use Rattle.std.proofs.lemmas.Cmp.{nat_list_cmp_total}
 use Rattle.std.proofs.lemmas.List.{get_or_append_left, get_or_push, get_or-set_same, get_or-set_other, get_or_default, length-set, length_push, get_or-map, length-map}
 use Rattle.std.proofs.lemmas.List.Elements.{All-push, All-nil}
-use Rattle.byte_names.specs.declared.ranks.Keyed.{Keyed}
+use Rattle.byte_names.specs.declared.ranked.Keyed.{Keyed}
 use Rattle.byte_names.specs.Keys.{AreKeys, IsAppended, IsKey, IsLastName}
 use Rattle.byte_names.specs.Names.{name_at, AreInOrder}
 use Rattle.byte_names.specs.Ranks.{IsRanking}

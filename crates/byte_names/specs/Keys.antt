@@ -1,6 +1,6 @@
 -- Names with what they are sorted by.
 use Rattle.std.specs.Prelude.{◌≡◌, ℕ, ◌+◌, ◌-◌, ◌<◌, ◌⊎◌, ◌++◌, List, [], ◌∷◌, length, map, All, Contains}
-use Rattle.byte_names.specs.declared.ranks.Keyed.{Keyed}
+use Rattle.byte_names.specs.declared.ranked.Keyed.{Keyed}
 use Rattle.byte_names.specs.Lead.{lead}
 use Rattle.byte_names.specs.Names.{name_at}
 

@@ -1,7 +1,7 @@
 -- Where a look-up among names ends.
 use Rattle.std.specs.Prelude.{◌≡◌, ℕ, ◌<◌, List, length}
-use Rattle.byte_names.specs.declared.table.Seat.{Seat}
-use Rattle.byte_names.specs.declared.table.Seat.TheVariants.{Taken, Free}
+use Rattle.byte_names.specs.declared.name_table.Seat.{Seat}
+use Rattle.byte_names.specs.declared.name_table.Seat.TheVariants.{Taken, Free}
 use Rattle.byte_names.specs.Names.{name_at}
 
 -- the name has the index

@@ -8,8 +8,8 @@
 #![tactic(auto)]
 
 mod lead;
-mod ranks;
-mod table;
+mod name_table;
+mod ranked;
 
-pub use ranks::{Ranked, rank};
-pub use table::NameTable;
+pub use name_table::NameTable;
+pub use ranked::{Ranked, rank};

@@ -2,8 +2,8 @@
 use Rattle.std.specs.Prelude.{◌≡◌, ℕ, ◌+◌, ◌≤◌, List, length}
 use Rattle.edge_text.specs.Faults.{line_at}
 use Rattle.edge_json.specs.declared.cause.LineFault.{LineFault}
-use Rattle.edge_json.specs.declared.decoding.Decoded.{Decoded}
-use Rattle.edge_json.specs.declared.decoding.Decoded.TheVariants.{Lines, Fault}
+use Rattle.edge_json.specs.declared.decoded.Decoded.{Decoded}
+use Rattle.edge_json.specs.declared.decoded.Decoded.TheVariants.{Lines, Fault}
 use Rattle.edge_json.specs.Meaning.{bad, meaning_of}
 use Rattle.edge_json.specs.Said.{json_said, said_of}
 

@@ -8,14 +8,14 @@
 #![tactic(auto)]
 
 mod cause;
-mod decoding;
+mod decoded;
 mod edge_line;
 mod graph;
 mod laws;
 mod line;
 
 pub use cause::{Cause, LineFault};
-pub use decoding::{Decoded, decode};
+pub use decoded::{Decoded, decode};
 pub use edge_line::EdgeLine;
 pub use graph::graph_of_lines;
 pub use laws::one_line_fault;

@@ -3,7 +3,7 @@ use Rattle.byte_names.specs.Names.{names_of}
 use Rattle.edge_text.specs.Readings.{IsReading}
 use Rattle.edge_json.specs.Faults.{IsDecoded}
 use Rattle.edge_json.specs.Said.{json_said, said_of}
-use Rattle.edge_json.specs.declared.decoding.Decoded.TheVariants.{Lines}
+use Rattle.edge_json.specs.declared.decoded.Decoded.TheVariants.{Lines}
 use Rattle.component_answer.specs.Answers.{IsSaidAnswer}
 use Rattle.component_answer.specs.Inputs.{IsFaultless, said_by}
 use Rattle.component_answer.proofs.SaidAnswer.{faultless_answer}

@@ -1,6 +1,6 @@
 use Rattle.std.proofs.Common.{◌+◌, ◌-◌, length}
 use Rattle.edge_json.proofs.LineSteps.{AreDecoded}
-use Rattle.edge_json.proofs.decoding.decode.Given as goal
+use Rattle.edge_json.proofs.decoded.decode.Given as goal
 
 -- no line so far is wrong, and the names are what they say
 abbrev pub invariant-loop-at : goal.invariant-loop-at

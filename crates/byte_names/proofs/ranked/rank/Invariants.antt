@@ -1,6 +1,6 @@
 use Rattle.byte_names.specs.Names.{names_of}
 use Rattle.byte_names.proofs.Ranking.{AreRanked}
-use Rattle.byte_names.proofs.ranks.rank.Given as goal
+use Rattle.byte_names.proofs.ranked.rank.Given as goal
 
 -- the names of the keys so far have ranks
 abbrev pub invariant-loop-key : goal.invariant-loop-key

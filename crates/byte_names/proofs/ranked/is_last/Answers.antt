@@ -2,7 +2,7 @@ use Rattle.std.proofs.Common.{◌≡◌, ◌<◌, ◌-◌, length, sym, ap, ◌�
 use Rattle.std.specs.Cmp.Lexicographic.{bytes_decides}
 use Rattle.byte_names.specs.Names.{name_at, names_of}
 use Rattle.byte_names.proofs.NameLists.{as_many, name_read}
-use Rattle.byte_names.proofs.ranks.is_last.Goals as goal
+use Rattle.byte_names.proofs.ranked.is_last.Goals as goal
 
 pub returns-in-Some : goal.returns-in-Some
 returns-in-Some c =

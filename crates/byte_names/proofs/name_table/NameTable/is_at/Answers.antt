@@ -2,7 +2,7 @@ use Rattle.std.proofs.Common.{◌≡◌, ◌<◌, length, get_or, sym, ap, subst
 use Rattle.std.specs.Cmp.Lexicographic.{bytes_decides}
 use Rattle.byte_names.specs.Seats.{IsNameAt}
 use Rattle.byte_names.proofs.NameLists.{as_many, name_read}
-use Rattle.byte_names.proofs.table.NameTable.is_at.Goals as goal
+use Rattle.byte_names.proofs.name_table.NameTable.is_at.Goals as goal
 
 pub returns-in-Some : goal.returns-in-Some
 returns-in-Some c is =

@@ -1,13 +1,13 @@
 use Rattle.std.proofs.Common.{[], length, get_or, sym, ap, subst, arith}
 use Rattle.std.specs.List.Sorted.{IsSortedBy}
 use Rattle.std.proofs.lemmas.List.{get_or_default}
-use Rattle.byte_names.specs.declared.ranks.Keyed.{Keyed}
+use Rattle.byte_names.specs.declared.ranked.Keyed.{Keyed}
 use Rattle.byte_names.specs.Keys.{AreKeys, IsKey}
 use Rattle.byte_names.specs.Names.{names_of}
 use Rattle.byte_names.proofs.KeyLists.{keys_moved}
 use Rattle.byte_names.proofs.NameLists.{as_many}
 use Rattle.byte_names.proofs.Ranking.{AreRanked, all_ranked, comes_before, none_ranked, one_ranked}
-use Rattle.byte_names.proofs.ranks.rank.Goals as goal
+use Rattle.byte_names.proofs.ranked.rank.Goals as goal
 
 pub loop-key-init : goal.loop-key-init
 loop-key-init c =

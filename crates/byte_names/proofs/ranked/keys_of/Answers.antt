@@ -1,11 +1,11 @@
 use Rattle.std.proofs.Common.{◌≡◌, ℕ, ◌+◌, ◌<◌, List, [], length, get_or, sym, ap, subst, ◌∙◌, arith}
 use Rattle.std.proofs.lemmas.List.{get_or-map}
-use Rattle.byte_names.specs.declared.ranks.Keyed.{Keyed}
+use Rattle.byte_names.specs.declared.ranked.Keyed.{Keyed}
 use Rattle.byte_names.specs.Keys.{AreKeys, IsKey}
 use Rattle.byte_names.specs.Names.{name_at, names_of}
 use Rattle.byte_names.proofs.KeyLists.{key_more}
 use Rattle.byte_names.proofs.NameLists.{as_many}
-use Rattle.byte_names.proofs.ranks.keys_of.Goals as goal
+use Rattle.byte_names.proofs.ranked.keys_of.Goals as goal
 use denote.Ref.{Bor}
 
 pub loop-name-preserved : goal.loop-name-preserved

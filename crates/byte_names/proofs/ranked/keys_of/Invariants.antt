@@ -1,7 +1,7 @@
 use Rattle.std.proofs.Common.{◌≡◌, vec_len}
 use Rattle.byte_names.specs.Keys.{AreKeys}
 use Rattle.byte_names.specs.Names.{names_of}
-use Rattle.byte_names.proofs.ranks.keys_of.Given as goal
+use Rattle.byte_names.proofs.ranked.keys_of.Given as goal
 
 -- the names so far have their keys
 abbrev pub invariant-loop-name : goal.invariant-loop-name

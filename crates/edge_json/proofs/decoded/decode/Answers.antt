@@ -5,7 +5,7 @@ use Rattle.edge_json.specs.Meaning.{bad, meaning_of}
 use Rattle.edge_json.specs.Said.{IsHeard}
 use Rattle.edge_json.specs.declared.cause.LineFault.{LineFault}
 use Rattle.edge_json.proofs.LineSteps.{AreDecoded, all_decoded, decoded_more, first_found, none_decoded}
-use Rattle.edge_json.proofs.decoding.decode.Goals as goal
+use Rattle.edge_json.proofs.decoded.decode.Goals as goal
 
 pub loop-at-init : goal.loop-at-init
 loop-at-init c = subst (AreDecoded c.args.text.now 0 0) (sym c.new-lines.ensures.items) (none_decoded c.args.text.now)
