@@ -16,5 +16,6 @@ returns-clause-below c =
     let seen = c.args.program.now in
     let P : ℕ → Type 0 = IsDeclared seen c.args.property in
     let nodes : List ℕ = c.push_declared.new.nodes.items in
-    let are : (q : ℕ) → Contains nodes q ↔ P q = λ q. adds_from_none P c.new-nodes.result.items nodes c.new-nodes.ensures.items c.in_ok-push_declared.ensures q in
+    let are : (q : ℕ) → Contains nodes q ↔ P q = λ q.
+    adds_from_none P c.new-nodes.result.items nodes c.new-nodes.ensures.items c.in_ok-push_declared.ensures q in
     all_below seen P nodes (declared_below seen c.args.property) are

@@ -27,4 +27,5 @@ returns c =
     let items = c.deref-file-items.result.now in
     declared_go seen c.args.property items seen.loaded.files c.args.nodes.now.items c.loop-file.nodes.items
     (ap (map see_facts) c.deref-file-items.ensures.value ∙ ap (λ (l : LoadedFiles). l.files) (sym c.loaded-loaded.ensures))
-    (among_all (IsKeptIn seen c.args.property) items c.loop-file.file-index c.args.nodes.now.items c.loop-file.nodes.items c.loop-file-test.false c.loop-file.invariant)
+    (among_all (IsKeptIn seen c.args.property) items c.loop-file.file-index c.args.nodes.now.items c.loop-file.nodes.items c.loop-file-test.false
+    c.loop-file.invariant)
