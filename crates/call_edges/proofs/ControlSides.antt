@@ -1,15 +1,14 @@
 -- What is met within a control construct: what is met within its sides.
-use Rattle.std.proofs.Common.{◌≡◌, ℕ, ◌+◌, ◌≤◌, List, [], ◌∷◌, ◌++◌, Option, Some, None, length, ap, sym, ◌∙◌, subst, refl, arith, append-nil}
+use Rattle.std.proofs.Common.{◌≡◌, ℕ, List, [], ◌∷◌, Some, ap, sym, subst, refl, arith, append-nil}
 use Rattle.prolog_terms.specs.declared.term.Span.{Span}
 use Rattle.prolog_terms.specs.declared.term.Form.{Form}
-use Rattle.prolog_terms.specs.Tree.{Tree, Trees, compound, paren, none, more}
-use Rattle.prolog_terms.specs.Views.{Binary, binary, trees_in}
-use Rattle.prolog_terms.specs.Weight.{weight}
+use Rattle.prolog_terms.specs.Tree.{Tree, compound, paren, none, more}
+use Rattle.prolog_terms.specs.Views.{Binary, binary}
 use Rattle.prolog_terms.proofs.ViewLemmas.{some_once, some_none}
 use Rattle.module_table.specs.declared.goal_arg.GoalArg.{GoalArg}
 use Rattle.call_edges.specs.declared.role.Role.{Role}
 use Rattle.call_edges.specs.declared.role.Way.TheVariants.{Control}
-use Rattle.call_edges.specs.Goals.{Met, place, Rows, Taken, taken, taken_by, unmet, by_row, first_two as both_in, settled, way, AddsMet}
+use Rattle.call_edges.specs.Goals.{place, Taken, taken, taken_by, unmet, by_row, first_two as both_in, settled, way, AddsMet}
 use Rattle.call_edges.specs.PlainCalls.{AreSides}
 use Rattle.call_edges.proofs.MetLemmas.{first_two}
 use Rattle.call_edges.proofs.WalkLemmas.{paren_walked, compound_walked}

@@ -1,12 +1,10 @@
 -- Calls of goals of directives.
-use Rattle.std.proofs.Common.{◌≡◌, ◌↔◌, ℕ, List, [], All, slice_get, ap, sym, ◌∙◌, subst}
-use Rattle.std.specs.Prelude.{Contains}
+use Rattle.std.proofs.Common.{◌≡◌, List, [], All, slice_get, ap, sym, ◌∙◌, subst}
 use Rattle.std.specs.List.{enumerate_from}
 use Rattle.std.specs.List.Retain.{IsFiltered, DiffersFromLast}
 use Rattle.std.specs.List.Sorted.{IsSorted, IsPermutation}
 use Rattle.std.proofs.lemmas.List.Elements.{All-contains}
 use Rattle.list_laws.proofs.Members.{all_by}
-use Rattle.prolog_terms.specs.Tree.{Tree}
 use Rattle.clause_text.specs.Offsets.{HasOffsets}
 use Rattle.file_library.specs.Spots.{StandsInText}
 use Rattle.import_rules.specs.Program.{Seen, IsKnown}

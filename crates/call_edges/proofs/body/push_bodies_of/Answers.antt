@@ -8,7 +8,6 @@ use Rattle.import_rules.proofs.MetaTold.{seen_at}
 use Rattle.clause_text.specs.Clauses.{clause_trees}
 use Rattle.module_table.specs.Defined.{see_defined}
 use Rattle.module_table.specs.Facts.{see_facts, Facts}
-use Rattle.file_library.specs.Loaded.{LoadedFiles}
 use Rattle.import_rules.specs.Program.{Seen, places_in}
 use Rattle.call_edges.specs.Bodies.{see_body, clause_bodies, bodies_at}
 use Rattle.call_edges.proofs.BodyLemmas.{IsThere, places_there, bodies_there, flat_more}

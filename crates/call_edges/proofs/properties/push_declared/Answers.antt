@@ -1,4 +1,4 @@
-use Rattle.std.proofs.Common.{◌≡◌, ℕ, List, map, ap, sym, ◌∙◌, subst}
+use Rattle.std.proofs.Common.{List, map, ap, sym, ◌∙◌, subst}
 use Rattle.module_table.specs.declared.mark.Mark.{Mark}
 use Rattle.module_table.specs.Facts.{see_facts}
 use Rattle.module_table.specs.Marks.{see_mark}

@@ -1,4 +1,4 @@
-use Rattle.std.proofs.Common.{◌≡◌, ◌*◌, ◌≤◌, ℕ, List, [], All, arith, ap, sym, ◌∙◌, subst, refl}
+use Rattle.std.proofs.Common.{List, All, arith, ap, sym, ◌∙◌, subst}
 use Rattle.std.proofs.lemmas.List.Elements.{All-cons, All-nil}
 use Rattle.prolog_terms.specs.Weight.{weight}
 use Rattle.kept_clauses.specs.Plain.{PlainGoal, body_tree}

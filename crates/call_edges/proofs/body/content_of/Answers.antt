@@ -1,1 +1,0 @@
-use Rattle.call_edges.proofs.body.content_of.Goals as goal

@@ -1,1 +1,0 @@
-use Rattle.call_edges.proofs.body.form_content.Goals as goal
