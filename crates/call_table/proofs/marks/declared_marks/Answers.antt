@@ -1,4 +1,3 @@
-use Rattle.std.proofs.Common.{ap, sym, subst}
 use Rattle.call_edges.specs.Properties.{IsDeclared}
 use Rattle.call_table.proofs.MarkLemmas.{all_below, marks_as}
 use Rattle.call_table.proofs.marks.declared_marks.Goals as goal
