@@ -5,7 +5,7 @@ ghost use Rattle.component_tool.specs.Run.{IsRun};
 ghost use Rattle.component_answer.specs.Searches.{FindsGroups};
 ghost use Rattle.component_words.specs.Settings.{AreLawful, see_settings};
 ghost use Rattle.tool_run.specs.Keeps.{LeavesOther};
-ghost use Rattle.std.specs.Prelude.{ℕ, List};
+ghost use Rattle.std.specs.Prelude.{ℕ, List, ◌<◌, ◌≤◌};
 
 use crate::ending::put_end;
 use crate::lines::{MEMORY, USAGE};
@@ -79,9 +79,17 @@ fn run_workers<R: Threads + Wait + Sync, S: Source, O: Sink, E: Sink, G: Gate>(
     ensures left { LeavesOther (out.old, out.new) (err.old, err.new) result }
 {
     let jobs = settings.jobs;
-    run_with(alloc, settings, source, out, err, |reach: Reach<'_>| {
-        drive_workers(rt, alloc, reach.graph, reach.starts, jobs, gate)
-    })
+    run_with(
+        alloc,
+        settings,
+        source,
+        out,
+        err,
+        |reach: Reach<'_>|
+            requires some { 0 < jobs }
+            requires few { jobs ≤ 64 }
+        { drive_workers(rt, alloc, reach.graph, reach.starts, jobs, gate) },
+    )
 }
 
 /// Runs with these settings. If they ask for one thread, `run_alone` does it, which always returns.

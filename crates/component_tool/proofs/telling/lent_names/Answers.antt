@@ -1,4 +1,4 @@
-use Rattle.std.proofs.Common.{◌≡◌, ◌++◌, ◌∷◌, [], ◌∙◌, List, ℕ, Bor, ap, ap₂, sym}
+use Rattle.std.proofs.Common.{◌++◌, ◌∷◌, [], ◌∙◌, List, ℕ, Bor, ap, ap₂, sym}
 use Rattle.std.proofs.lemmas.List.{map-append, take_more}
 use Rattle.byte_names.specs.Names.{names_of}
 use Rattle.component_tool.proofs.telling.lent_names.Goals as goal

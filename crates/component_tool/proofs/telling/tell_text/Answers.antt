@@ -1,6 +1,6 @@
 use Rattle.std.proofs.Common.{◌≡◌, ◌<◌, ◌∙◌, [], ℕ, List, length, ap, subst, inl, inr}
 use Rattle.std.proofs.lemmas.List.{get_or_default}
-use Rattle.byte_names.specs.Names.{name_at, names_of}
+use Rattle.byte_names.specs.Names.{names_of}
 use Rattle.component_answer.specs.Answers.{IsAnswer}
 use Rattle.component_answer.specs.declared.answer.Answer.TheVariants.{NoNode}
 use Rattle.component_words.specs.Settings.{see_settings}
