@@ -91,6 +91,7 @@ same_property Multifile Dynamic = false
 same_property Multifile Multifile = true
 
 are_same : (a b : Property) → (same_property a b ≡ true) ↔ (a ≡ b)
+unfolding same_property
 are_same Dynamic Dynamic = (λ is. refl, λ same. refl)
 are_same Dynamic Multifile = (λ is. absurd (false≢true is), λ same. let both : Dynamic ≡ Multifile = same in absurd (cc))
 are_same Multifile Dynamic = (λ is. absurd (false≢true is), λ same. let both : Multifile ≡ Dynamic = same in absurd (cc))
