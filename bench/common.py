@@ -74,10 +74,12 @@ def best(*words):
 
 
 @contextlib.contextmanager
-def folders(description):
-    """A folder that goes, and the one for texts, which is the same but for `--keep FOLDER`."""
+def folders(description, *flags):
+    """A folder that goes, the one for texts, which is the same but for `--keep FOLDER`, and whether each of these flags is given."""
     parser = argparse.ArgumentParser(description=description)
     parser.add_argument("--keep", metavar="FOLDER", type=pathlib.Path)
-    keep = parser.parse_args().keep
+    for flag in flags:
+        parser.add_argument(flag, action="store_true")
+    options = vars(parser.parse_args())
     with tempfile.TemporaryDirectory() as name:
-        yield pathlib.Path(name), keep or pathlib.Path(name)
+        yield pathlib.Path(name), options["keep"] or pathlib.Path(name), *(options[it.strip("-")] for it in flags)

@@ -225,6 +225,16 @@ def try_signal():
     return "" if status == 130 and not left else f"SIGTERM: status {status}, {left} stay behind"
 
 
+def try_help():
+    """Whether each command prints a page of at most 30 lines of 60 columns about itself."""
+    for command in (BRIDGE, CALLS_BRIDGE, GOALS):
+        done = subprocess.run([command, "--help"], stdin=subprocess.DEVNULL, capture_output=True, text=True, timeout=MOST_SECONDS)
+        lines = done.stdout.splitlines()
+        if done.returncode or done.stderr or not lines or "usage" not in lines[0] or command.name not in lines[0] or len(lines) > 30 or max(map(len, lines)) > 60:
+            return f"{command.name} --help: {done.returncode}, {done.stdout}{done.stderr}"
+    return ""
+
+
 def try_settings():
     """Whether the user's own settings of SWI-Prolog stay unread."""
     with tempfile.TemporaryDirectory(prefix="bridge-") as room:
@@ -338,7 +348,7 @@ def try_small():
         ("programs that SWI-Prolog traces", try_traced, folders),
         ("programs with known answers", try_peer, peers),
         ("programs beside list_undefined", try_undefined, folders),
-        ("other things", lambda attempt: attempt(), [try_library_goals, try_signal, try_settings, try_named_library, try_installed, try_bounds, try_traps, try_modules]),
+        ("other things", lambda attempt: attempt(), [try_library_goals, try_help, try_signal, try_settings, try_named_library, try_installed, try_bounds, try_traps, try_modules]),
     ]
     wrong = []
     with concurrent.futures.ThreadPoolExecutor(AT_ONCE) as pool:

@@ -433,6 +433,38 @@ def pictures(browser):
     browser.is_quiet("pictures")
 
 
+# A module of which something is exported, dynamic, multifile, and called by directives, and whose clauses end in several ways.
+MARKED = """:- module(m, [p/1]).
+:- dynamic(fact/1).
+:- multifile(hook/1).
+:- q, nowhere(1).
+p(X) :- fact(X),
+    hook("a. b") .
+q :- p('it''s. ').
+hook(0'.) .
+"""
+
+
+def marks(browser):
+    """What is declared of predicates, why they are entry points, what directives call, and where clauses end."""
+    source, page = browser.room / "marked.pl", browser.room / "marked.html"
+    source.write_text(MARKED)
+    status, said, _ = make(page, source)
+    browser.open(page)
+    check("marks: status 0", status == 0 and not said, said)
+    wanted = {"m:p/1": ["exported", "entry point: export"], "m:fact/1": ["dynamic"], "m:hook/1": ["multifile"], "m:q/0": ["entry point: directive"]}
+    every = ("exported", "dynamic", "multifile", "entry point")
+    for name, words in wanted.items():
+        browser.go("p", name)
+        tags = [it for it in browser.run("return [...document.querySelectorAll('.tag')].map(it => it.textContent)") if it.startswith(every)]
+        check(f"marks: what is said of {name}", tags == words, tags)
+    browser.go("p", "m:q/0")
+    check("marks: the directive that calls q", "Called by directives (1)" in browser.text() and "marked.pl:4:4" in browser.text(), browser.text())
+    texts = browser.run("return JSON.parse(document.getElementById('data').textContent).clauses.flat().map(it => it[3])")
+    ends = ["p(X) :- fact(X),\n    hook(\"a. b\")", "q :- p('it''s. ').", "hook(0'.)"]
+    check("marks: each clause ends where calls says", texts and sorted(it.strip() for it in texts) == sorted(ends), texts)
+
+
 def bridge_lines(swi, words, files):
     out = subprocess.run([swi, "--unreached", *words, *files], stdout=subprocess.PIPE, stderr=subprocess.DEVNULL, check=False).stdout.decode()
     return [json.loads(it) for it in out.split("\n") if it]
@@ -661,6 +693,7 @@ def in_browser(room, options):
             hostile(browser)
             sizes(browser, (1500, 20000))
             pictures(browser)
+            marks(browser)
             bridge(browser)
             without_pictures(browser, runs)
             sources_that_changed(browser)
