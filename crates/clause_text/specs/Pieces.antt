@@ -1,13 +1,16 @@
 -- Clauses that stand side by side, where the table that the first of them is read with is known.
 use Rattle.std.specs.Prelude.{◌≡◌, ◌≢◌, ℕ, ◌-◌, ◌<◌, ◌≤◌, ◌⊎◌, List, [], ◌∷◌, ◌++◌, Some, true, length, map, slice_range}
+use Rattle.prolog_tokens.specs.declared.limits.TheConstants.{MOST_BYTES}
 use Rattle.prolog_tokens.specs.declared.token.Kind.TheVariants.{End}
 use Rattle.prolog_tokens.specs.declared.token.Token.{Token}
+use Rattle.prolog_names.specs.Numbers.{AreNumbered}
+use Rattle.prolog_names.specs.declared.numbers.Numbered.{Numbered}
 use Rattle.prolog_ops.specs.Table.{Ops}
 use Rattle.prolog_terms.specs.declared.node.Node.{Node}
 use Rattle.prolog_terms.specs.Terms.{root_tree, tree_in}
 use Rattle.prolog_terms.specs.Tree.{Tree}
 use Rattle.prolog_terms.specs.Words.{table_of}
-use Rattle.prolog_terms.specs.Clause.{IsClauseOf}
+use Rattle.prolog_terms.specs.Clause.{ArePart, IsClauseOf}
 use Rattle.clause_text.specs.declared.fault.TextFault.{TextFault}
 use Rattle.clause_text.specs.declared.fault.TextFault.TheVariants.{NoMemory}
 use Rattle.clause_text.specs.declared.piece.Stretch.{Stretch}
@@ -22,6 +25,12 @@ use Rattle.kept_clauses.specs.Words.{kept_tree, Kept}
 use Rattle.clause_text.specs.Kept.{LeavesPlainly}
 use Rattle.clause_text.specs.Items.{has_some, items_of}
 use Rattle.clause_text.specs.Clauses.{IsPartFault, EndsFirst, clause_tree, clause_trees, kind_there}
+
+-- the tokens stand side by side in a text that isn't too long, each with the number of its name
+pub record AreRowTokens (text : List ℕ) (tokens : List Token) (numbered : Numbered) : Type 0 where
+  pub small : length text ≤ MOST_BYTES
+  pub part : ArePart text tokens
+  pub numbered : AreNumbered text numbered.names tokens numbered.numbers.items
 
 -- from the table on, the tokens from a place up to another are clauses with these plain trees, and leave the other table
 abbrev pub LeadTo : Ops → List ℕ → List Token → ℕ → List Tree → Ops → ℕ → Type 0

@@ -3,12 +3,11 @@ ghost use Rattle.prolog_tokens.specs.declared.limits.TheConstants.{MOST_BYTES};
 ghost use Rattle.prolog_tokens.specs.declared.token.Token.{Token as TokenOf};
 ghost use Rattle.prolog_tokens.specs.Cut.{IsCut};
 ghost use Rattle.prolog_tokens.specs.Rows.{EachEndsClause, tokens_of};
-ghost use Rattle.prolog_names.specs.Numbers.{AreNumbered, IsNumberedRow, token_rows};
+ghost use Rattle.prolog_names.specs.Numbers.{IsNumberedRow, token_rows};
 ghost use Rattle.prolog_ops.specs.Table.{ops_of};
-ghost use Rattle.prolog_terms.specs.Clause.{ArePart};
 ghost use Rattle.clause_text.specs.Kept.{ArePlainClauses};
 ghost use Rattle.clause_text.specs.Clauses.{HasClauseFault, clause_trees, opening_ops, text_trees};
-ghost use Rattle.clause_text.specs.Pieces.{IsBehindClause, ArePieces, AreAdded, IsFaultAhead};
+ghost use Rattle.clause_text.specs.Pieces.{AreRowTokens, IsBehindClause, ArePieces, AreAdded, IsFaultAhead};
 
 use crate::fault::TextFault;
 use crate::items::apply_items;
@@ -110,9 +109,7 @@ fn read_row<R: Threads + Sync>(
     mut ahead: usize,
     clauses: &mut Vec<Clause>,
 ) -> Result<usize, TextFault>
-    requires small { length text.now ≤ MOST_BYTES }
-    requires part { ArePart text.now tokens.now }
-    requires numbered { AreNumbered text.now numbered.now.names tokens.now numbered.now.numbers.items }
+    requires tokens { AreRowTokens text.now tokens.now numbered.now }
     ensures ok { OnOk result (AreAdded (ops_of table.old) text.now tokens.now 0 (clause_trees numbered.now.names clauses.old.items)
         (clause_trees numbered.now.names clauses.new.items) (ops_of table.new) (length tokens.now)) }
     ensures fault { IfErr result (λ fault. fault ≢ TextFault.NoMemory → IsFaultAhead (ops_of table.old) text.now tokens.now 0 fault) }

@@ -1,18 +1,16 @@
 //! Adjacent clauses of a text, read under one table of operators.
 
-ghost use Rattle.std.specs.Prelude.{◌≡◌, ◌≢◌, ◌≤◌, ◌<◌, ◌++◌, ℕ, List, length, map, All, IfOk, IfErr, OnOk};
+ghost use Rattle.std.specs.Prelude.{◌≡◌, ◌≢◌, ◌<◌, ◌++◌, ℕ, List, length, map, All, IfOk, IfErr, OnOk};
 ghost use Rattle.std.specs.Arc.{arc_value};
-ghost use Rattle.prolog_tokens.specs.declared.limits.TheConstants.{MOST_BYTES};
 ghost use Rattle.prolog_tokens.specs.declared.token.Token.{Token as TokenOf};
-ghost use Rattle.prolog_names.specs.Numbers.{AreNumbered};
 ghost use Rattle.prolog_ops.specs.Table.{Ops, ops_of};
 ghost use Rattle.prolog_terms.specs.declared.node.Node.{Node as NodeOf};
 ghost use Rattle.prolog_terms.specs.Terms.{root_tree, tree_in};
-ghost use Rattle.prolog_terms.specs.Clause.{ArePart, IsClauseOf, IsOneClause};
+ghost use Rattle.prolog_terms.specs.Clause.{AreClauseTokens, IsClauseOf};
 ghost use Rattle.prolog_terms.specs.Words.{table_of};
 ghost use Rattle.clause_text.specs.Items.{has_some, items_of};
 ghost use Rattle.clause_text.specs.Clauses.{EndsFirst, IsUnread, clause_trees};
-ghost use Rattle.clause_text.specs.Pieces.{IsBehindClause, IsStretch, AreStretches, IsRead, ReadEndIs, KeptEndIs, IsPiece, EndIs, ArePieces};
+ghost use Rattle.clause_text.specs.Pieces.{AreRowTokens, IsBehindClause, IsStretch, AreStretches, IsRead, ReadEndIs, KeptEndIs, IsPiece, EndIs, ArePieces};
 ghost use Rattle.kept_clauses.specs.Plain.{plain};
 ghost use Rattle.kept_clauses.specs.Words.{AreKept, kept_tree};
 ghost use Rattle.prolog_terms.specs.Tree.{Tree};
@@ -140,10 +138,7 @@ fn read_part(
     numbers: &[u32],
     nodes: &mut NodeList,
 ) -> Result<bool, TextFault>
-    requires small { length text.now ≤ MOST_BYTES }
-    requires part { ArePart text.now tokens.now }
-    requires clause { IsOneClause tokens.now }
-    requires numbered { AreNumbered text.now names.now tokens.now numbers.now }
+    requires { AreClauseTokens text.now names.now tokens.now numbers.now }
     ensures more { (more : List NodeOf) × (nodes.new ≡ nodes.old ++ more) }
     ensures clause { OnOk result (IsClauseOf (table_of (ops_of table.now)) text.now tokens.now (root_tree names.now nodes.new)) }
     ensures sets { IfOk result (λ sets. sets ≡ has_some (items_of (root_tree names.now nodes.new))) }
@@ -185,9 +180,7 @@ fn read_on(
     stretch: &Stretch,
     mut nodes: NodeList,
 ) -> ReadStretch
-    requires small { length text.now ≤ MOST_BYTES }
-    requires part { ArePart text.now tokens.now }
-    requires numbered { AreNumbered text.now numbered.now.names tokens.now numbered.now.numbers.items }
+    requires tokens { AreRowTokens text.now tokens.now numbered.now }
     requires stretch { IsStretch tokens.now stretch.now }
     ensures { IsRead numbered.now.names (ops_of table.now) text.now tokens.now stretch.now.from stretch.now.to result }
 {
@@ -318,9 +311,7 @@ fn read_stretch(
     numbered: &Numbered,
     stretch: &Stretch,
 ) -> Result<Piece, AllocError>
-    requires small { length text.now ≤ MOST_BYTES }
-    requires part { ArePart text.now tokens.now }
-    requires numbered { AreNumbered text.now numbered.now.names tokens.now numbered.now.numbers.items }
+    requires tokens { AreRowTokens text.now tokens.now numbered.now }
     requires stretch { IsStretch tokens.now stretch.now }
     ensures { IfOk result (IsPiece numbered.now.names (ops_of table.now) text.now tokens.now stretch.now.from stretch.now.to) }
 {
@@ -351,9 +342,7 @@ fn piece_of(
     numbered: &Numbered,
     stretch: &Stretch,
 ) -> Piece
-    requires small { length text.now ≤ MOST_BYTES }
-    requires part { ArePart text.now tokens.now }
-    requires numbered { AreNumbered text.now numbered.now.names tokens.now numbered.now.numbers.items }
+    requires tokens { AreRowTokens text.now tokens.now numbered.now }
     requires stretch { IsStretch tokens.now stretch.now }
     ensures { IsPiece numbered.now.names (ops_of table.now) text.now tokens.now stretch.now.from stretch.now.to result }
 {
@@ -374,9 +363,7 @@ pub fn read_each<R: Threads + Sync>(
     numbered: &Numbered,
     stretches: &[Stretch],
 ) -> Result<Vec<Piece>, AllocError>
-    requires small { length text.now ≤ MOST_BYTES }
-    requires part { ArePart text.now tokens.now }
-    requires numbered { AreNumbered text.now numbered.now.names tokens.now numbered.now.numbers.items }
+    requires tokens { AreRowTokens text.now tokens.now numbered.now }
     requires stretches { All (IsStretch tokens.now) stretches.now }
     ensures { IfOk result (λ pieces. (from to : ℕ) → AreStretches tokens.now from stretches.now to
         → ArePieces numbered.now.names (ops_of table.now) text.now tokens.now from pieces.items to) }
@@ -386,8 +373,7 @@ pub fn read_each<R: Threads + Sync>(
         .with_min_len(FEWEST)
         .map(
             |stretch: &Stretch| -> Piece
-                requires { (length text.now ≤ MOST_BYTES) × ArePart text.now tokens.now
-                    × AreNumbered text.now numbered.now.names tokens.now numbered.now.numbers.items × IsStretch tokens.now stretch.now }
+                requires { AreRowTokens text.now tokens.now numbered.now × IsStretch tokens.now stretch.now }
                 ensures { IsPiece numbered.entry.now.names (ops_of table.entry.now) text.entry.now tokens.entry.now
                     stretch.entry.now.from stretch.entry.now.to result }
             { piece_of(alloc, table, text, tokens, numbered, stretch) },

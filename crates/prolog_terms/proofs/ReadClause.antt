@@ -10,7 +10,7 @@ use Rattle.prolog_terms.specs.declared.reader.ReadFault.TheVariants.{Stuck, TooD
 use Rattle.prolog_terms.specs.Words.{Word, Table, sides_of, is_name, is_minus}
 use Rattle.prolog_terms.specs.Grammar.{Parse, bare, yield, parse_depth, priority, Begins, BeginsWithin}
 use Rattle.prolog_terms.specs.Tree.{Tree}
-use Rattle.prolog_terms.specs.Clause.{IsWordOf, AreWords, tree_from, IsClauseOf, StandsAt, IsReadFault}
+use Rattle.prolog_terms.specs.Clause.{IsWordOf, AreWords, tree_from, IsClauseOf, StandsAt, IsReadFault, IsOnlyClauseOf, IsOnlyReadFault}
 use Rattle.prolog_terms.specs.StuckPlace.{IsRefusedAt, IsStuckAt, IsTooDeepAt, HasNoEnd}
 use Rattle.prolog_terms.specs.ReaderSteps.{infix_open, Stack, Mode, want, minus, functor, have, done, State, at, goes, bound, reduced, infix_on, with_tree, want_step, act, next, run}
 use Rattle.prolog_terms.specs.ReaderWaiting.{Waiting, ready, named, doubt, feed}
@@ -268,14 +268,8 @@ module _ (T : Table) (ok : IsTable T) (text : List ℕ) where
           stands_here spelled (IsTooDeepAt T)
           (λ all are. record { place = refused_here all are; deeper = subst (Begins T) (sym (first_words all are)) deeper })
 
-  -- what is true of a fault
-  pub record IsFault (tokens : List Token) (fault : ReadFault) : Type 0 where
-    pub is : IsReadFault T text tokens fault
-    pub only : (other : ReadFault) → IsReadFault T text tokens other → other ≡ fault
-    pub none : (other : Tree) → IsClauseOf T text tokens other → ⊥
-
   pub stuck : (tokens : List Token) (k : ℕ) (t : Token) (seen : WaitingSeen) (w : Word) → ((j : ℕ) (u : Token) → slice_get tokens j ≡ Some u → IsToken text u)
-      → slice_get tokens k ≡ Some t → HasRead T text (take k tokens) seen → NextWord text t w → None ≡ feed_seen T seen w → IsFault tokens (Stuck t.start)
+      → slice_get tokens k ≡ Some t → HasRead T text (take k tokens) seen → NextWord text t w → None ≡ feed_seen T seen w → IsOnlyReadFault T text tokens (Stuck t.start)
   unfolding stops
   stuck tokens k t seen w spelled stands read word step =
       let nothing = fed_none T (feed T read.waiting w) (step ∙ fed_waiting (take k tokens) seen read w) in
@@ -285,7 +279,7 @@ module _ (T : Table) (ok : IsTable T) (text : List ℕ) where
 
   pub deep : (tokens : List Token) (k : ℕ) (t : Token) (seen next : WaitingSeen) (w : Word) → ((j : ℕ) (u : Token) → slice_get tokens j ≡ Some u → IsToken text u)
       → slice_get tokens k ≡ Some t → HasRead T text (take k tokens) seen → NextWord text t w → Some next ≡ feed_seen T seen w → 1000 < waiting_floor_seen next
-      → IsFault tokens (TooDeep t.start)
+      → IsOnlyReadFault T text tokens (TooDeep t.start)
   unfolding stops
   deep tokens k t seen later w spelled stands read word step over =
       let fed = fed_some T (feed T read.waiting w) later (step ∙ fed_waiting (take k tokens) seen read w) in
@@ -298,12 +292,8 @@ module _ (T : Table) (ok : IsTable T) (text : List ℕ) where
 
   -- all tokens are read
 
-  pub record IsRead (tokens : List Token) (tree : Tree) : Type 0 where
-    pub is : IsClauseOf T text tokens tree
-    pub only : (other : Tree) → IsClauseOf T text tokens other → other ≡ tree
-
   clause_read : (ts : List Token) (words : List Word) (S : Stack) (t : Parse) → AreWords text ts words → ((others : List Word) → AreWords text ts others → others ≡ words)
-      → from_start T words ≡ Some (at S (done t)) → parse_depth t ≤ 1000 → IsRead ts (tree_from t)
+      → from_start T words ≡ Some (at S (done t)) → parse_depth t ≤ 1000 → IsOnlyClauseOf T text ts (tree_from t)
   clause_read ts words S t are only run_is shallow =
       let sound = read_sound T words S t run_is in
       record {
@@ -321,13 +311,13 @@ module _ (T : Table) (ok : IsTable T) (text : List ℕ) where
   run_all : (words : List Word) (S : Stack) (m : Mode) → Fits T words (ready S m) → from_start T words ≡ Some (at S m)
   run_all words S m fits = ap (from_start T) (sym (append-nil words)) ∙ fits []
 
-  pub finish : (ts : List Token) (S : StackSeen) (operand : OperandSeen) → HasRead T text ts (ready_seen S (finished operand)) → IsRead ts operand.tree
+  pub finish : (ts : List Token) (S : StackSeen) (operand : OperandSeen) → HasRead T text ts (ready_seen S (finished operand)) → IsOnlyClauseOf T text ts operand.tree
   finish ts S operand read = by_waiting read.waiting read.fits read.seen_is read.low
     where
-      by_waiting : (waiting : Waiting) → Fits T read.words waiting → ready_seen S (finished operand) ≡ waiting_seen T waiting → waiting_floor T waiting ≤ 1000 → IsRead ts operand.tree
+      by_waiting : (waiting : Waiting) → Fits T read.words waiting → ready_seen S (finished operand) ≡ waiting_seen T waiting → waiting_floor T waiting ≤ 1000 → IsOnlyClauseOf T text ts operand.tree
       by_waiting (ready S' (done t)) fits e low =
           let same : tree_from t ≡ operand.tree = (let o : operand ≡ parse_seen T t = cc in ap (λ x. x.tree) (sym o)) in
-          subst (IsRead ts) same (clause_read ts read.words S' t read.are read.only (run_all read.words S' (done t) fits) low)
+          subst (IsOnlyClauseOf T text ts) same (clause_read ts read.words S' t read.are read.only (run_all read.words S' (done t) fits) low)
       by_waiting (ready S' want) fits e low = cc
       by_waiting (ready S' (minus d)) fits e low = cc
       by_waiting (ready S' (functor n)) fits e low = cc
@@ -395,7 +385,7 @@ module _ (T : Table) (ok : IsTable T) (text : List ℕ) where
       by_more (v ∷ vs) e ends =
           none_at words (length words - 1) w (before_none (yield b.tree) words v vs b.end (kept_none T ok b.tree (b.end ∷ []) b.clause.kept) e) stands ends
 
-  pub unfinished : (ts : List Token) (seen : WaitingSeen) → HasRead T text ts seen → is_finished seen ≡ false → IsFault ts (NoEnd (length text))
+  pub unfinished : (ts : List Token) (seen : WaitingSeen) → HasRead T text ts seen → is_finished seen ≡ false → IsOnlyReadFault T text ts (NoEnd (length text))
   unfinished ts seen read open_ = record {
     is = (refl, (read.words, read.are, no_end));
     only = only_no_end;
@@ -439,10 +429,10 @@ module _ (T : Table) (ok : IsTable T) (text : List ℕ) where
   at_end tokens i seen low read = subst (λ ts. HasRead T text ts seen) (take_over i tokens low) read
 
   pub finished_read : (tokens : List Token) (i : ℕ) (seen : WaitingSeen) (S : StackSeen) (operand : OperandSeen) (tree : Tree) → length tokens ≤ i
-      → HasRead T text (take i tokens) seen → seen ≡ ready_seen S (finished operand) → operand.tree ≡ tree → IsRead tokens tree
+      → HasRead T text (take i tokens) seen → seen ≡ ready_seen S (finished operand) → operand.tree ≡ tree → IsOnlyClauseOf T text tokens tree
   finished_read tokens i seen S operand tree low read is tree_is =
-      subst (IsRead tokens) tree_is (finish tokens S operand (subst (HasRead T text tokens) is (at_end tokens i seen low read)))
+      subst (IsOnlyClauseOf T text tokens) tree_is (finish tokens S operand (subst (HasRead T text tokens) is (at_end tokens i seen low read)))
 
   pub unfinished_read : (tokens : List Token) (i : ℕ) (seen : WaitingSeen) (fault : ReadFault) → length tokens ≤ i
-      → HasRead T text (take i tokens) seen → is_finished seen ≡ false → fault ≡ NoEnd (length text) → IsFault tokens fault
-  unfinished_read tokens i seen fault low read open_ is = subst (IsFault tokens) (sym is) (unfinished tokens seen (at_end tokens i seen low read) open_)
+      → HasRead T text (take i tokens) seen → is_finished seen ≡ false → fault ≡ NoEnd (length text) → IsOnlyReadFault T text tokens fault
+  unfinished_read tokens i seen fault low read open_ is = subst (IsOnlyReadFault T text tokens) (sym is) (unfinished tokens seen (at_end tokens i seen low read) open_)

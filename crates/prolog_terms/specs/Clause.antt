@@ -6,6 +6,8 @@ use Rattle.prolog_tokens.specs.declared.token.Kind.TheVariants.{Integer, Float, 
 use Rattle.prolog_tokens.specs.declared.token.Token.{Token}
 use Rattle.prolog_tokens.specs.Cut.{IsCut}
 use Rattle.prolog_tokens.specs.Values.{IsNameText, IsIntegerValue}
+use Rattle.prolog_tokens.specs.declared.limits.TheConstants.{MOST_BYTES}
+use Rattle.prolog_names.specs.Numbers.{AreNumbered}
 use Rattle.prolog_terms.specs.declared.term.Span.{Span}
 use Rattle.prolog_terms.specs.declared.term.Form.TheVariants.{Functional, Prefix, Infix, Postfix}
 use Rattle.prolog_terms.specs.declared.term.ConstKind.TheVariants as const
@@ -166,3 +168,21 @@ pub record ArePart (text : List ℕ) (ts : List Token) : Type 0 where
 pub record IsOneClause (tokens : List Token) : Type 0 where
   pub some : 0 < length tokens
   pub one_end : (k : ℕ) (token : Token) → k + 1 < length tokens → slice_get tokens k ≡ Some token → token.kind ≢ End
+
+-- the tokens are those of one clause of a text that isn't too long, each with the number of its name
+pub record AreClauseTokens (text : List ℕ) (names : List (List ℕ)) (tokens : List Token) (numbers : List ℕ) : Type 0 where
+  pub small : length text ≤ MOST_BYTES
+  pub part : ArePart text tokens
+  pub clause : IsOneClause tokens
+  pub numbered : AreNumbered text names tokens numbers
+
+-- it is the clause that the tokens are, and they are no other one
+pub record IsOnlyClauseOf (T : Table) (text : List ℕ) (tokens : List Token) (tree : Tree) : Type 0 where
+  pub is : IsClauseOf T text tokens tree
+  pub only : (other : Tree) → IsClauseOf T text tokens other → other ≡ tree
+
+-- it is why the tokens aren't a clause; they have no other fault, and are none
+pub record IsOnlyReadFault (T : Table) (text : List ℕ) (tokens : List Token) (fault : ReadFault) : Type 0 where
+  pub is : IsReadFault T text tokens fault
+  pub only : (other : ReadFault) → IsReadFault T text tokens other → other ≡ fault
+  pub none : (tree : Tree) → IsClauseOf T text tokens tree → ⊥

@@ -1,15 +1,13 @@
 ghost use Rattle.std.specs.Prelude.{◌≡◌, ◌≢◌, ◌≤◌, ◌++◌, List, length, IfOk, IfErr, OnOk};
 ghost use Rattle.prolog_tokens.specs.declared.limits.TheConstants.{MOST_BYTES};
-ghost use Rattle.prolog_names.specs.Numbers.{AreNumbered};
 ghost use Rattle.prolog_ops.specs.Table.{ops_of};
 ghost use Rattle.prolog_terms.specs.declared.node.Node.{Node as NodeOf};
 ghost use Rattle.prolog_terms.specs.declared.reader.ReadFault.TheVariants.{NoMemory};
 ghost use Rattle.prolog_terms.specs.ReaderSeen.{is_finished};
 ghost use Rattle.prolog_terms.specs.StackSeen.{Names as NamesSeen, see_reader};
 ghost use Rattle.prolog_terms.specs.Terms.{root_tree};
-ghost use Rattle.prolog_terms.specs.Tree.{Tree};
 ghost use Rattle.prolog_terms.specs.Words.{table_of};
-ghost use Rattle.prolog_terms.specs.Clause.{ArePart, IsClauseOf, IsReadFault, IsOneClause};
+ghost use Rattle.prolog_terms.specs.Clause.{AreClauseTokens, IsOnlyClauseOf, IsOnlyReadFault};
 
 use crate::feed::{feed, waiting_floor};
 use crate::node_list::NodeList;
@@ -83,18 +81,10 @@ fn read_nodes(
     tokens: &[Token],
     numbers: &[u32],
 ) -> Result<(), ReadFault>
-    requires small { length text.now ≤ MOST_BYTES }
-    requires part { ArePart text.now tokens.now }
-    requires clause { IsOneClause tokens.now }
-    requires numbered { AreNumbered text.now names.now tokens.now numbers.now }
-    ensures ok { OnOk result (IsClauseOf (table_of (ops_of table.now)) text.now tokens.now (root_tree names.now reader.new.state.nodes)) }
-    ensures only { OnOk result ((other : Tree) → IsClauseOf (table_of (ops_of table.now)) text.now tokens.now other
-        → other ≡ root_tree names.now reader.new.state.nodes) }
-    ensures none { IfErr result (λ fault. fault ≢ ReadFault.NoMemory → (other : Tree)
-        → IsClauseOf (table_of (ops_of table.now)) text.now tokens.now other → ⊥) }
-    ensures only_fault { IfErr result (λ fault. fault ≢ ReadFault.NoMemory → (other : ReadFault)
-        → IsReadFault (table_of (ops_of table.now)) text.now tokens.now other → other ≡ fault) }
-    ensures fault { IfErr result (λ fault. fault ≢ ReadFault.NoMemory → IsReadFault (table_of (ops_of table.now)) text.now tokens.now fault) }
+    requires { AreClauseTokens text.now names.now tokens.now numbers.now }
+    ensures ok { OnOk result (IsOnlyClauseOf (table_of (ops_of table.now)) text.now tokens.now (root_tree names.now reader.new.state.nodes)) }
+    ensures fault { IfErr result (λ fault. fault ≢ ReadFault.NoMemory
+        → IsOnlyReadFault (table_of (ops_of table.now)) text.now tokens.now fault) }
 {
     table_law(table);
     reader.begin();
@@ -126,19 +116,11 @@ pub fn read_onto(
     numbers: &[u32],
     nodes: &mut NodeList,
 ) -> Result<(), ReadFault>
-    requires small { length text.now ≤ MOST_BYTES }
-    requires part { ArePart text.now tokens.now }
-    requires clause { IsOneClause tokens.now }
-    requires numbered { AreNumbered text.now names.now tokens.now numbers.now }
+    requires { AreClauseTokens text.now names.now tokens.now numbers.now }
     ensures more { (more : List NodeOf) × (nodes.new ≡ nodes.old ++ more) }
-    ensures ok { OnOk result (IsClauseOf (table_of (ops_of table.now)) text.now tokens.now (root_tree names.now nodes.new)) }
-    ensures only { OnOk result ((other : Tree) → IsClauseOf (table_of (ops_of table.now)) text.now tokens.now other
-        → other ≡ root_tree names.now nodes.new) }
-    ensures none { IfErr result (λ fault. fault ≢ ReadFault.NoMemory → (other : Tree)
-        → IsClauseOf (table_of (ops_of table.now)) text.now tokens.now other → ⊥) }
-    ensures only_fault { IfErr result (λ fault. fault ≢ ReadFault.NoMemory → (other : ReadFault)
-        → IsReadFault (table_of (ops_of table.now)) text.now tokens.now other → other ≡ fault) }
-    ensures fault { IfErr result (λ fault. fault ≢ ReadFault.NoMemory → IsReadFault (table_of (ops_of table.now)) text.now tokens.now fault) }
+    ensures ok { OnOk result (IsOnlyClauseOf (table_of (ops_of table.now)) text.now tokens.now (root_tree names.now nodes.new)) }
+    ensures fault { IfErr result (λ fault. fault ≢ ReadFault.NoMemory
+        → IsOnlyReadFault (table_of (ops_of table.now)) text.now tokens.now fault) }
 {
     match read_nodes(reader, table, names, text, tokens, numbers) {
         Ok(()) => {}
@@ -166,18 +148,10 @@ pub fn read_clause(
     tokens: &[Token],
     numbers: &[u32],
 ) -> Result<NodeList, ReadFault>
-    requires small { length text.now ≤ MOST_BYTES }
-    requires part { ArePart text.now tokens.now }
-    requires clause { IsOneClause tokens.now }
-    requires numbered { AreNumbered text.now names.now tokens.now numbers.now }
-    ensures ok { IfOk result (λ nodes. IsClauseOf (table_of (ops_of table.now)) text.now tokens.now (root_tree names.now nodes)) }
-    ensures only { IfOk result (λ nodes. (other : Tree) → IsClauseOf (table_of (ops_of table.now)) text.now tokens.now other
-        → other ≡ root_tree names.now nodes) }
-    ensures none { IfErr result (λ fault. fault ≢ ReadFault.NoMemory → (other : Tree)
-        → IsClauseOf (table_of (ops_of table.now)) text.now tokens.now other → ⊥) }
-    ensures only_fault { IfErr result (λ fault. fault ≢ ReadFault.NoMemory → (other : ReadFault)
-        → IsReadFault (table_of (ops_of table.now)) text.now tokens.now other → other ≡ fault) }
-    ensures fault { IfErr result (λ fault. fault ≢ ReadFault.NoMemory → IsReadFault (table_of (ops_of table.now)) text.now tokens.now fault) }
+    requires { AreClauseTokens text.now names.now tokens.now numbers.now }
+    ensures ok { IfOk result (λ nodes. IsOnlyClauseOf (table_of (ops_of table.now)) text.now tokens.now (root_tree names.now nodes)) }
+    ensures fault { IfErr result (λ fault. fault ≢ ReadFault.NoMemory
+        → IsOnlyReadFault (table_of (ops_of table.now)) text.now tokens.now fault) }
 {
     let mut nodes = NodeList::new(alloc);
     match read_onto(reader, table, names, text, tokens, numbers, &mut nodes) {

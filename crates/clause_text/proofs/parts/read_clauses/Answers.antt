@@ -22,17 +22,16 @@ loop-row-init g c = record {
       (c.in_ok-table.ensures ∙ opening_ops-is) (ap (clause_trees c.args.numbered.names) c.in_ok-clauses.ensures.items) c.requires.cut c.requires.ends c.requires.numbered;
 }
 
-pub read_row-requires-clause-part : goal.read_row-requires-clause-part
-read_row-requires-clause-part g c = λ lifetimes outlives.
-    subst (ArePart c.args.text.now) (sym c.deref-in-loop-row.ensures.value)
-    (next_part c.loop-row.names c.args.text.now (row_tokens c.args.numbered.rows.items) c.loop-row.row-iterator.rest.items (ops_of c.loop-row.table)
-    (clause_trees c.loop-row.names c.loop-row.clauses.items) c.in-Some.row c.next.new.self.rest.items c.in-Some.ensures.steps.0 c.loop-row.invariant.left)
-
-pub read_row-requires-clause-numbered : goal.read_row-requires-clause-numbered
-read_row-requires-clause-numbered g c = λ lifetimes outlives.
-    subst (λ ts. AreNumbered c.args.text.now c.loop-row.names ts c.in-Some.row.numbers.items) (sym c.deref-in-loop-row.ensures.value)
-    (next_numbered c.loop-row.names c.args.text.now (row_tokens c.args.numbered.rows.items) c.loop-row.row-iterator.rest.items (ops_of c.loop-row.table)
-    (clause_trees c.loop-row.names c.loop-row.clauses.items) c.in-Some.row c.next.new.self.rest.items c.in-Some.ensures.steps.0 c.loop-row.invariant.left)
+pub read_row-requires-clause-tokens : goal.read_row-requires-clause-tokens
+read_row-requires-clause-tokens g c = λ lifetimes outlives. record {
+  small = c.requires.small;
+  part = subst (ArePart c.args.text.now) (sym c.deref-in-loop-row.ensures.value)
+      (next_part c.loop-row.names c.args.text.now (row_tokens c.args.numbered.rows.items) c.loop-row.row-iterator.rest.items (ops_of c.loop-row.table)
+      (clause_trees c.loop-row.names c.loop-row.clauses.items) c.in-Some.row c.next.new.self.rest.items c.in-Some.ensures.steps.0 c.loop-row.invariant.left);
+  numbered = subst (λ ts. AreNumbered c.args.text.now c.loop-row.names ts c.in-Some.row.numbers.items) (sym c.deref-in-loop-row.ensures.value)
+      (next_numbered c.loop-row.names c.args.text.now (row_tokens c.args.numbered.rows.items) c.loop-row.row-iterator.rest.items (ops_of c.loop-row.table)
+      (clause_trees c.loop-row.names c.loop-row.clauses.items) c.in-Some.row c.next.new.self.rest.items c.in-Some.ensures.steps.0 c.loop-row.invariant.left);
+}
 
 pub returns-in_err-ahead-clause-fault : goal.returns-in_err-ahead-clause-fault
 returns-in_err-ahead-clause-fault g c =

@@ -11,12 +11,20 @@ use Rattle.clause_text.proofs.Leads.{lead_more}
 use Rattle.clause_text.proofs.PieceLemmas.{none_on, not_past, trees_kept_in, trees_more, ends_more}
 use Rattle.clause_text.proofs.piece.read_on.Goals as goal
 
-pub read_part-requires-clause-part : goal.read_part-requires-clause-part
-read_part-requires-clause-part c =
-    slice_part c.args.text.now c.args.tokens.now c.loop-at.at c.part_end-next.result c.requires.part c.part_end-next.ensures.some
-
-pub read_part-requires-clause-clause : goal.read_part-requires-clause-clause
-read_part-requires-clause-clause c = part_one c.args.tokens.now c.loop-at.at c.part_end-next.result c.part_end-next.ensures
+pub read_part-requires : goal.read_part-requires
+read_part-requires c =
+    let names = c.args.numbered.now.names in
+    let at = c.loop-at.at in
+    let next = c.part_end-next.result in
+    record {
+      small = c.requires.tokens.small;
+      part = slice_part c.args.text.now c.args.tokens.now at next c.requires.tokens.part c.part_end-next.ensures.some;
+      clause = part_one c.args.tokens.now at next c.part_end-next.ensures;
+      numbered =
+          subst (λ numbers. AreNumbered c.args.text.now names (slice_range c.args.tokens.now at next) (slice_range numbers at next)) (sym c.as_slice-numbers.ensures.value)
+          (c.numbered_part.ensures c.args.text.now names c.args.tokens.now c.args.numbered.now.numbers.items at next c.requires.tokens.numbered
+          (omega (arith, c.part_end-next.ensures.some)) (omega (arith, c.part_end-next.ensures.within)));
+    }
 
 pub loop-at-preserved : goal.loop-at-preserved
 loop-at-preserved c =
@@ -75,15 +83,6 @@ returns-then-sets c =
           (sym (ap (map plain) (trees_kept_in names c.loop-at.nodes c.read_part.new.nodes more.0 more.1 c.loop-at.ends.items c.loop-at.invariant.2))) c.loop-at.invariant.0;
       end = (c.part_end-next.ensures, c.in-Ok.ensures.clause, sym c.in-Ok.ensures.sets ∙ c.if-sets.true);
     }
-
-pub read_part-requires-clause-numbered : goal.read_part-requires-clause-numbered
-read_part-requires-clause-numbered c =
-    let names = c.args.numbered.now.names in
-    let at = c.loop-at.at in
-    let next = c.part_end-next.result in
-    subst (λ numbers. AreNumbered c.args.text.now names (slice_range c.args.tokens.now at next) (slice_range numbers at next)) (sym c.as_slice-numbers.ensures.value)
-    (c.numbered_part.ensures c.args.text.now names c.args.tokens.now c.args.numbered.now.numbers.items at next c.requires.numbered
-    (omega (arith, c.part_end-next.ensures.some)) (omega (arith, c.part_end-next.ensures.within)))
 
 pub returns-then-is_err : goal.returns-then-is_err
 returns-then-is_err c =

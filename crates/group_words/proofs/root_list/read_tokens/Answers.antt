@@ -1,4 +1,4 @@
-use Rattle.std.proofs.Common.{◌∙◌, [], Some, true≢false, ap, sym, subst, option_map, append-nil}
+use Rattle.std.proofs.Common.{◌∙◌, [], Some, true≢false, ap, sym, refl, subst, option_map, append-nil}
 use Rattle.prolog_tokens.specs.declared.token.Token.{Token}
 use Rattle.prolog_tokens.specs.Cut.{IsCut}
 use Rattle.prolog_terms.specs.Words.{table_of}
@@ -18,14 +18,19 @@ returns-then-not-is_one_clause c tree clause =
     } in
     true≢false (sym (c.if-not-is_one_clause.ensures.1 one))
 
-pub read_clause-requires-clause-part : goal.read_clause-requires-clause-part
-read_clause-requires-clause-part c = record {
-  before = [];
-  after = [];
-  cut = subst (λ ts. IsCut c.args.text.now ts) (sym (append-nil c.args.tokens.now)) c.requires.cut;
+pub read_clause-requires : goal.read_clause-requires
+read_clause-requires c = record {
+  small = c.requires.small;
+  part = record {
+    before = [];
+    after = [];
+    cut = subst (λ ts. IsCut c.args.text.now ts) (sym (append-nil c.args.tokens.now)) c.requires.cut;
+  };
+  clause = c.if-not-is_one_clause.ensures.0 refl;
+  numbered = c.in_ok-numbered.ensures;
 }
 
 pub returns : goal.returns
 returns c tree clause =
-    c.in-Err.ensures.none c.in_default.not-NoMemory tree
+    (c.in-Err.ensures.fault c.in_default.not-NoMemory).none tree
     (subst (λ ops. IsClauseOf (table_of ops) c.args.text.now c.args.tokens.now tree) (sym c.in_ok-table.ensures) clause)

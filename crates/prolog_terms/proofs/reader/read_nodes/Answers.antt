@@ -49,95 +49,36 @@ loop-at-preserved c =
     (some_of c.in_ok-feed.field-0 later _ c.in_ok-feed.ensures c.if-not-branch.false)
     (omega (arith, c.waiting_floor.ensures names, c.if-waiting_floor-gt-DEEPEST.false)))
 
-pub returns-then-not-branch-clause-none : goal.returns-then-not-branch-clause-none
-returns-then-not-branch-clause-none c = λ some.
-    (stuck (table_of (ops_of c.args.table.now)) (table_is (ops_of c.args.table.now) c.table_law.ensures) c.args.text.now c.args.tokens.now c.loop-at.at
-    (get_or c.args.tokens.now c.loop-at.at blank) (see_reader c.args.names.now c.loop-at.reader) (see_word c.args.names.now c.word_of-word.result)
-    (part_spelled c.args.text.now c.args.tokens.now c.requires.part)
-    (slice_get-get_or c.args.tokens.now c.loop-at.at blank c.loop-at-test.true) c.loop-at.invariant
-    (record { is = c.word_of-word.ensures.is; only = c.word_of-word.ensures.only })
-    (none_of c.in_ok-feed.field-0 (see_reader c.args.names.now c.feed.new.reader) _ c.in_ok-feed.ensures c.if-not-branch.true)).none
-
-pub returns-then-not-branch-clause-only_fault : goal.returns-then-not-branch-clause-only_fault
-returns-then-not-branch-clause-only_fault c = λ some.
-    (stuck (table_of (ops_of c.args.table.now)) (table_is (ops_of c.args.table.now) c.table_law.ensures) c.args.text.now c.args.tokens.now c.loop-at.at
-    (get_or c.args.tokens.now c.loop-at.at blank) (see_reader c.args.names.now c.loop-at.reader) (see_word c.args.names.now c.word_of-word.result)
-    (part_spelled c.args.text.now c.args.tokens.now c.requires.part)
-    (slice_get-get_or c.args.tokens.now c.loop-at.at blank c.loop-at-test.true) c.loop-at.invariant
-    (record { is = c.word_of-word.ensures.is; only = c.word_of-word.ensures.only })
-    (none_of c.in_ok-feed.field-0 (see_reader c.args.names.now c.feed.new.reader) _ c.in_ok-feed.ensures c.if-not-branch.true)).only
-
 pub returns-then-not-branch-clause-fault : goal.returns-then-not-branch-clause-fault
 returns-then-not-branch-clause-fault c = λ some.
-    (stuck (table_of (ops_of c.args.table.now)) (table_is (ops_of c.args.table.now) c.table_law.ensures) c.args.text.now c.args.tokens.now c.loop-at.at
+    stuck (table_of (ops_of c.args.table.now)) (table_is (ops_of c.args.table.now) c.table_law.ensures) c.args.text.now c.args.tokens.now c.loop-at.at
     (get_or c.args.tokens.now c.loop-at.at blank) (see_reader c.args.names.now c.loop-at.reader) (see_word c.args.names.now c.word_of-word.result)
     (part_spelled c.args.text.now c.args.tokens.now c.requires.part)
     (slice_get-get_or c.args.tokens.now c.loop-at.at blank c.loop-at-test.true) c.loop-at.invariant
     (record { is = c.word_of-word.ensures.is; only = c.word_of-word.ensures.only })
-    (none_of c.in_ok-feed.field-0 (see_reader c.args.names.now c.feed.new.reader) _ c.in_ok-feed.ensures c.if-not-branch.true)).is
-
-pub returns-then-waiting_floor-gt-DEEPEST-clause-none : goal.returns-then-waiting_floor-gt-DEEPEST-clause-none
-returns-then-waiting_floor-gt-DEEPEST-clause-none c = λ some.
-    (deep (table_of (ops_of c.args.table.now)) (table_is (ops_of c.args.table.now) c.table_law.ensures) c.args.text.now c.args.tokens.now c.loop-at.at
-    (get_or c.args.tokens.now c.loop-at.at blank) (see_reader c.args.names.now c.loop-at.reader) (see_reader c.args.names.now c.feed.new.reader) (see_word c.args.names.now c.word_of-word.result)
-    (part_spelled c.args.text.now c.args.tokens.now c.requires.part)
-    (slice_get-get_or c.args.tokens.now c.loop-at.at blank c.loop-at-test.true) c.loop-at.invariant
-    (record { is = c.word_of-word.ensures.is; only = c.word_of-word.ensures.only })
-    (some_of c.in_ok-feed.field-0 (see_reader c.args.names.now c.feed.new.reader) _ c.in_ok-feed.ensures c.if-not-branch.false)
-    (omega (arith, c.waiting_floor.ensures c.args.names.now, c.if-waiting_floor-gt-DEEPEST.true))).none
-
-pub returns-then-waiting_floor-gt-DEEPEST-clause-only_fault : goal.returns-then-waiting_floor-gt-DEEPEST-clause-only_fault
-returns-then-waiting_floor-gt-DEEPEST-clause-only_fault c = λ some.
-    (deep (table_of (ops_of c.args.table.now)) (table_is (ops_of c.args.table.now) c.table_law.ensures) c.args.text.now c.args.tokens.now c.loop-at.at
-    (get_or c.args.tokens.now c.loop-at.at blank) (see_reader c.args.names.now c.loop-at.reader) (see_reader c.args.names.now c.feed.new.reader) (see_word c.args.names.now c.word_of-word.result)
-    (part_spelled c.args.text.now c.args.tokens.now c.requires.part)
-    (slice_get-get_or c.args.tokens.now c.loop-at.at blank c.loop-at-test.true) c.loop-at.invariant
-    (record { is = c.word_of-word.ensures.is; only = c.word_of-word.ensures.only })
-    (some_of c.in_ok-feed.field-0 (see_reader c.args.names.now c.feed.new.reader) _ c.in_ok-feed.ensures c.if-not-branch.false)
-    (omega (arith, c.waiting_floor.ensures c.args.names.now, c.if-waiting_floor-gt-DEEPEST.true))).only
+    (none_of c.in_ok-feed.field-0 (see_reader c.args.names.now c.feed.new.reader) _ c.in_ok-feed.ensures c.if-not-branch.true)
 
 pub returns-then-waiting_floor-gt-DEEPEST-clause-fault : goal.returns-then-waiting_floor-gt-DEEPEST-clause-fault
 returns-then-waiting_floor-gt-DEEPEST-clause-fault c = λ some.
-    (deep (table_of (ops_of c.args.table.now)) (table_is (ops_of c.args.table.now) c.table_law.ensures) c.args.text.now c.args.tokens.now c.loop-at.at
+    deep (table_of (ops_of c.args.table.now)) (table_is (ops_of c.args.table.now) c.table_law.ensures) c.args.text.now c.args.tokens.now c.loop-at.at
     (get_or c.args.tokens.now c.loop-at.at blank) (see_reader c.args.names.now c.loop-at.reader) (see_reader c.args.names.now c.feed.new.reader) (see_word c.args.names.now c.word_of-word.result)
     (part_spelled c.args.text.now c.args.tokens.now c.requires.part)
     (slice_get-get_or c.args.tokens.now c.loop-at.at blank c.loop-at-test.true) c.loop-at.invariant
     (record { is = c.word_of-word.ensures.is; only = c.word_of-word.ensures.only })
     (some_of c.in_ok-feed.field-0 (see_reader c.args.names.now c.feed.new.reader) _ c.in_ok-feed.ensures c.if-not-branch.false)
-    (omega (arith, c.waiting_floor.ensures c.args.names.now, c.if-waiting_floor-gt-DEEPEST.true))).is
-
-pub returns-then-not-is_finished-clause-none : goal.returns-then-not-is_finished-clause-none
-returns-then-not-is_finished-clause-none c = λ some.
-    (unfinished_read (table_of (ops_of c.args.table.now)) (table_is (ops_of c.args.table.now) c.table_law.ensures) c.args.text.now c.args.tokens.now c.loop-at.at
-    (see_reader c.args.names.now c.loop-at.reader) c.no_end.result c.loop-at-test.false c.loop-at.invariant
-    (sym (c.is_finished.ensures c.args.names.now) ∙ c.if-not-is_finished.true) c.no_end.ensures).none
-
-pub returns-then-not-is_finished-clause-only_fault : goal.returns-then-not-is_finished-clause-only_fault
-returns-then-not-is_finished-clause-only_fault c = λ some.
-    (unfinished_read (table_of (ops_of c.args.table.now)) (table_is (ops_of c.args.table.now) c.table_law.ensures) c.args.text.now c.args.tokens.now c.loop-at.at
-    (see_reader c.args.names.now c.loop-at.reader) c.no_end.result c.loop-at-test.false c.loop-at.invariant
-    (sym (c.is_finished.ensures c.args.names.now) ∙ c.if-not-is_finished.true) c.no_end.ensures).only
+    (omega (arith, c.waiting_floor.ensures c.args.names.now, c.if-waiting_floor-gt-DEEPEST.true))
 
 pub returns-then-not-is_finished-clause-fault : goal.returns-then-not-is_finished-clause-fault
 returns-then-not-is_finished-clause-fault c = λ some.
-    (unfinished_read (table_of (ops_of c.args.table.now)) (table_is (ops_of c.args.table.now) c.table_law.ensures) c.args.text.now c.args.tokens.now c.loop-at.at
+    unfinished_read (table_of (ops_of c.args.table.now)) (table_is (ops_of c.args.table.now) c.table_law.ensures) c.args.text.now c.args.tokens.now c.loop-at.at
     (see_reader c.args.names.now c.loop-at.reader) c.no_end.result c.loop-at-test.false c.loop-at.invariant
-    (sym (c.is_finished.ensures c.args.names.now) ∙ c.if-not-is_finished.true) c.no_end.ensures).is
+    (sym (c.is_finished.ensures c.args.names.now) ∙ c.if-not-is_finished.true) c.no_end.ensures
 
 pub returns-clause-ok : goal.returns-clause-ok
 returns-clause-ok c =
     let reader = c.loop-at.reader in
     let names = c.args.names.now in
     let done = finished_with names (innermost reader.state.stack) (trees_in names reader.state) reader.state.mode reader.state.operand reader.waiting reader.waited (sym (c.is_finished.ensures names) ∙ c.if-not-is_finished.false) in
-    (finished_read (table_of (ops_of c.args.table.now)) (table_is (ops_of c.args.table.now) c.table_law.ensures) c.args.text.now c.args.tokens.now c.loop-at.at
+    finished_read (table_of (ops_of c.args.table.now)) (table_is (ops_of c.args.table.now) c.table_law.ensures) c.args.text.now c.args.tokens.now c.loop-at.at
     (see_reader names reader) done.stack done.operand (root_tree names reader.state.nodes) c.loop-at-test.false c.loop-at.invariant done.is
-    done.tree_is).is
-
-pub returns-clause-only : goal.returns-clause-only
-returns-clause-only c =
-    let reader = c.loop-at.reader in
-    let names = c.args.names.now in
-    let done = finished_with names (innermost reader.state.stack) (trees_in names reader.state) reader.state.mode reader.state.operand reader.waiting reader.waited (sym (c.is_finished.ensures names) ∙ c.if-not-is_finished.false) in
-    (finished_read (table_of (ops_of c.args.table.now)) (table_is (ops_of c.args.table.now) c.table_law.ensures) c.args.text.now c.args.tokens.now c.loop-at.at
-    (see_reader names reader) done.stack done.operand (root_tree names reader.state.nodes) c.loop-at-test.false c.loop-at.invariant done.is
-    done.tree_is).only
+    done.tree_is
