@@ -11,8 +11,8 @@ use Rattle.prolog_ops.specs.Table.{Ops, set_fault, with_set}
 use Rattle.prolog_ops.specs.declared.op.OpKind.{OpKind}
 use Rattle.prolog_ops.specs.declared.table.OpFault.{OpFault}
 use Rattle.prolog_ops.specs.declared.table.OpFault.TheVariants as of_ops
-use Rattle.prolog_terms.specs.declared.reader.ReadFault.{ReadFault}
-use Rattle.prolog_terms.specs.declared.reader.ReadFault.TheVariants as of_clauses
+use Rattle.prolog_terms.specs.declared.read_fault.ReadFault.{ReadFault}
+use Rattle.prolog_terms.specs.declared.read_fault.ReadFault.TheVariants as of_clauses
 use Rattle.prolog_terms.specs.Tree.{Tree, Trees, compound, listed, tailed as with_tail, paren, none, more as with_more}
 use Rattle.prolog_terms.specs.Views.{inside, start_of, trees_in, sides_at, joined, atom_name}
 use Rattle.prolog_terms.specs.Words.{table_of}

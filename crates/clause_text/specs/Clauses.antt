@@ -7,8 +7,8 @@ use Rattle.prolog_tokens.specs.declared.token.Kind.TheVariants.{End}
 use Rattle.prolog_tokens.specs.declared.token.Token.{Token}
 use Rattle.prolog_tokens.specs.Cut.{IsCut}
 use Rattle.prolog_ops.specs.Table.{Ops, opening}
-use Rattle.prolog_terms.specs.declared.reader.ReadFault.{ReadFault}
-use Rattle.prolog_terms.specs.declared.reader.ReadFault.TheVariants as of_clauses
+use Rattle.prolog_terms.specs.declared.read_fault.ReadFault.{ReadFault}
+use Rattle.prolog_terms.specs.declared.read_fault.ReadFault.TheVariants as of_clauses
 use Rattle.prolog_terms.specs.Tree.{Tree}
 use Rattle.kept_clauses.specs.Words.{kept_tree}
 use Rattle.prolog_terms.specs.Weight.{weight}

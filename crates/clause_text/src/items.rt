@@ -10,7 +10,7 @@ ghost use Rattle.clause_text.specs.Clauses.{clause_tree};
 
 use crate::cause::Cause;
 use crate::fault::{TextFault, fault_at, fault_of_ops};
-use crate::terms::{directive_of, listed, operator_item, written_items};
+use crate::terms::{directive_of, listed_items, operator_item, written_items};
 use crate::text_clauses::Clause;
 use prolog_names::Names;
 use prolog_ops::{OpKind, OpTable};
@@ -197,7 +197,7 @@ fn apply_exports(alloc: Global, table: &mut OpTable, exports: &Term) -> Result<(
     ensures done { OnOk result (items_on (exported_items (tree_of exports.now)) (ops_of table.old) ≡ Ok (ops_of table.new)) }
     ensures refused { IfErr result (λ fault. fault ≢ TextFault.NoMemory → items_on (exported_items (tree_of exports.now)) (ops_of table.old) ≡ Err fault) }
 {
-    let list = listed(alloc, exports)?;
+    let list = listed_items(alloc, exports)?;
     for export in &list {
         apply_operator(alloc, table, export)?;
     }
@@ -256,7 +256,7 @@ fn is_item(term: &Term) -> bool
 fn exports_items(alloc: Global, exports: &Term) -> Result<bool, AllocError>
     ensures { IfOk result (λ some. some ≡ has_some (exported_items (tree_of exports.now))) }
 {
-    let list = listed(alloc, exports)?;
+    let list = listed_items(alloc, exports)?;
     Ok(list.iter().any(|export| is_item(export)))
 }
 

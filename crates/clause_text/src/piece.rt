@@ -290,13 +290,13 @@ fn piece_end(list: Arc<KeptList>, at: usize, end: ReadEnd) -> PieceEnd
 
 /// What was read of a stretch up to the token `to`, as clauses that share their list. The list has
 /// no spare capacity.
-fn shared(alloc: Global, names: &Names, read: ReadStretch, to: usize) -> Result<Piece, AllocError>
+fn share_list(alloc: Global, names: &Names, read: ReadStretch, to: usize) -> Result<Piece, AllocError>
     ensures { IfOk result (λ piece. (table : Ops) (text : List ℕ) (ts : List TokenOf) (from : ℕ)
         → IsRead names.now table text ts from to read → IsPiece names.now table text ts from to piece) }
 {
     let (mut list, begins) = plain_clauses(alloc, names, &read.nodes, &read.ends)?;
     let last = push_last(&mut list, names, &read.nodes, read.end)?;
-    let list = Arc::new(alloc, list.copied(alloc)?)?;
+    let list = Arc::new(alloc, list.exact_copy(alloc)?)?;
     let clauses = sharing(alloc, &list, &begins)?;
     let end = piece_end(list, last, read.end);
     Ok(Piece { clauses, to, end })
@@ -318,7 +318,7 @@ fn read_stretch(
     let room = stretch.to - stretch.from;
     let nodes = NodeList::with_room(alloc, room)?;
     let read = read_on(alloc, table, text, tokens, numbered, stretch, nodes);
-    shared(alloc, &numbered.names, read, stretch.to)
+    share_list(alloc, &numbered.names, read, stretch.to)
 }
 
 /// The piece of a stretch up to the token `to` if memory runs out.

@@ -56,7 +56,7 @@ pub fn written_items<'a>(term: &Term<'a>) -> Option<Parts<'a>>
 
 /// The items of a list, with or without a tail, in their order. There are none if the term is no
 /// list.
-pub fn listed<'a>(alloc: Global, term: &Term<'a>) -> Result<Vec<Term<'a>>, AllocError>
+pub fn listed_items<'a>(alloc: Global, term: &Term<'a>) -> Result<Vec<Term<'a>>, AllocError>
     ensures { IfOk result (λ terms. map tree_of terms.items ≡ listed_items (tree_of term.now)) }
 {
     match inside(term).kind() {

@@ -52,12 +52,12 @@ impl KeptList {
     }
 
     /// The same clauses without spare capacity.
-    pub fn copied(&self, alloc: Global) -> Result<KeptList, AllocError>
+    pub fn exact_copy(&self, alloc: Global) -> Result<KeptList, AllocError>
         ensures { IfOk result (λ copy. copy ≡ self.now) }
     {
         let mut words = Vec::with_capacity(alloc, self.words.len())?;
         words.extend_from_slice(&self.words)?;
-        let whole = self.whole.copied(alloc)?;
+        let whole = self.whole.exact_copy(alloc)?;
         Ok(KeptList { words, whole })
     }
 

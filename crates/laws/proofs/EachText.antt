@@ -6,7 +6,7 @@ use Rattle.prolog_tokens.specs.declared.token.Token.{Token}
 use Rattle.prolog_tokens.specs.declared.token.TokenFault.{TokenFault}
 use Rattle.prolog_tokens.specs.Cut.{IsCut, HasFault as HasTokenFault}
 use Rattle.prolog_ops.specs.Table.{Ops, IsOps}
-use Rattle.prolog_terms.specs.declared.reader.ReadFault.{ReadFault}
+use Rattle.prolog_terms.specs.declared.read_fault.ReadFault.{ReadFault}
 use Rattle.prolog_terms.specs.Tree.{Tree}
 use Rattle.prolog_terms.specs.Words.{table_of}
 use Rattle.prolog_terms.specs.Clause.{IsClauseOf, IsReadFault, ArePart}

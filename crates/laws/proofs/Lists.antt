@@ -9,7 +9,7 @@ use Rattle.prolog_tokens.specs.Cut.{HasFault, IsCut}
 use Rattle.prolog_tokens.proofs.Between.{one_cut}
 use Rattle.prolog_tokens.proofs.Faults.{fault_no_cut}
 use Rattle.prolog_ops.specs.Table.{IsOps, Ops}
-use Rattle.prolog_terms.specs.declared.reader.ReadFault.{ReadFault}
+use Rattle.prolog_terms.specs.declared.read_fault.ReadFault.{ReadFault}
 use Rattle.prolog_terms.specs.Clause.{ArePart, IsClauseOf, IsReadFault}
 use Rattle.prolog_terms.specs.Tree.{Tree}
 use Rattle.prolog_terms.specs.Views.{joined}

@@ -11,8 +11,8 @@ use Rattle.prolog_ops.specs.Table.{Ops, place_of, with_set, is_fixed, has_rival,
 use Rattle.prolog_terms.specs.Tree.{Tree}
 use Rattle.prolog_terms.specs.Words.{table_of}
 use Rattle.prolog_terms.specs.Clause.{IsReadFault}
-use Rattle.prolog_terms.specs.declared.reader.ReadFault.{ReadFault}
-use Rattle.prolog_terms.specs.declared.reader.ReadFault.TheVariants as of_clauses
+use Rattle.prolog_terms.specs.declared.read_fault.ReadFault.{ReadFault}
+use Rattle.prolog_terms.specs.declared.read_fault.ReadFault.TheVariants as of_clauses
 use Rattle.clause_text.specs.declared.cause.Cause.{Cause}
 use Rattle.clause_text.specs.declared.cause.Cause.TheVariants.{LateModule, BadIndicator, BadSpec, ControlHead, BadHead, NotInProfile}
 use Rattle.clause_text.specs.declared.fault.TextFault.{TextFault}

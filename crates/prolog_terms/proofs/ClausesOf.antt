@@ -5,8 +5,8 @@ use Rattle.std.proofs.lemmas.List.{take-append-drop}
 use Rattle.prolog_tokens.specs.declared.token.Kind.{Kind}
 use Rattle.prolog_tokens.specs.declared.token.Kind.TheVariants.{OpenRound, CloseRound, OpenSquare, CloseSquare, OpenCurly, CloseCurly, Comma, Bar, End}
 use Rattle.prolog_tokens.specs.declared.token.Token.{Token}
-use Rattle.prolog_terms.specs.declared.reader.ReadFault.{ReadFault}
-use Rattle.prolog_terms.specs.declared.reader.ReadFault.TheVariants.{Stuck, TooDeep, NoEnd, NoMemory}
+use Rattle.prolog_terms.specs.declared.read_fault.ReadFault.{ReadFault}
+use Rattle.prolog_terms.specs.declared.read_fault.ReadFault.TheVariants.{Stuck, TooDeep, NoEnd, NoMemory}
 use Rattle.prolog_terms.specs.Tree.{Tree}
 use Rattle.prolog_terms.specs.Words.{Word, Table, is_name, is_leaf, is_number, is_open_round, is_minus, is_unquoted, is_prefix, opens, number_next, atom_rule, is_negative}
 use Rattle.prolog_terms.specs.Grammar.{Parse, Parts, call, square, leaf, negative, bare, pair, group, tailed, wrapped, prefixed, infixed, postfixed, one, more, yield, parts_yield, IsKept, AreKept, Begins, BeginsWithin}

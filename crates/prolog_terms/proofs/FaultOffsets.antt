@@ -8,8 +8,8 @@ use Rattle.prolog_tokens.specs.Cut.{IsTokenOf}
 use Rattle.prolog_tokens.specs.Places.{IsOffset}
 use Rattle.prolog_tokens.proofs.Names.{token_from}
 use Rattle.prolog_tokens.proofs.OneToken.{token_some, token_within}
-use Rattle.prolog_terms.specs.declared.reader.ReadFault.{ReadFault}
-use Rattle.prolog_terms.specs.declared.reader.ReadFault.TheVariants as of_clauses
+use Rattle.prolog_terms.specs.declared.read_fault.ReadFault.{ReadFault}
+use Rattle.prolog_terms.specs.declared.read_fault.ReadFault.TheVariants as of_clauses
 use Rattle.prolog_terms.specs.Words.{Word, Table}
 use Rattle.prolog_terms.specs.StuckPlace.{IsStuckAt, IsTooDeepAt}
 use Rattle.prolog_terms.specs.Clause.{StandsAt, IsReadFault}

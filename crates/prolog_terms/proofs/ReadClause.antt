@@ -5,8 +5,8 @@ use Rattle.std.proofs.lemmas.Option.{slice_get_within, get_or_from_slice_get}
 use Rattle.std.proofs.lemmas.Bool.{cases_order}
 use Rattle.prolog_tokens.specs.declared.token.Kind.TheVariants.{End}
 use Rattle.prolog_tokens.specs.declared.token.Token.{Token}
-use Rattle.prolog_terms.specs.declared.reader.ReadFault.{ReadFault}
-use Rattle.prolog_terms.specs.declared.reader.ReadFault.TheVariants.{Stuck, TooDeep, NoEnd, NoMemory}
+use Rattle.prolog_terms.specs.declared.read_fault.ReadFault.{ReadFault}
+use Rattle.prolog_terms.specs.declared.read_fault.ReadFault.TheVariants.{Stuck, TooDeep, NoEnd, NoMemory}
 use Rattle.prolog_terms.specs.Words.{Word, Table, sides_of, is_name, is_minus}
 use Rattle.prolog_terms.specs.Grammar.{Parse, bare, yield, parse_depth, priority, Begins, BeginsWithin}
 use Rattle.prolog_terms.specs.Tree.{Tree}

@@ -12,8 +12,8 @@ use Rattle.prolog_terms.specs.declared.term.Span.{Span}
 use Rattle.prolog_terms.specs.declared.term.Form.TheVariants.{Functional, Prefix, Infix, Postfix}
 use Rattle.prolog_terms.specs.declared.term.ConstKind.TheVariants as const
 use Rattle.prolog_terms.specs.Tree.{Tree, Trees, variable, constant, atom, compound, listed, tailed as with_tail, curly, paren, none, more as with_more}
-use Rattle.prolog_terms.specs.declared.reader.ReadFault.{ReadFault}
-use Rattle.prolog_terms.specs.declared.reader.ReadFault.TheVariants.{Stuck, TooDeep, NoEnd, NoMemory}
+use Rattle.prolog_terms.specs.declared.read_fault.ReadFault.{ReadFault}
+use Rattle.prolog_terms.specs.declared.read_fault.ReadFault.TheVariants.{Stuck, TooDeep, NoEnd, NoMemory}
 use Rattle.prolog_terms.specs.Words.{Word, Table, is_name}
 use Rattle.prolog_terms.specs.Grammar.{Parse, Parts, GroupStart, call, square, leaf, negative, bare, pair, group, tailed, wrapped, prefixed, infixed}
 use Rattle.prolog_terms.specs.Grammar.{postfixed, one, more, yield, parse_depth, IsClause}

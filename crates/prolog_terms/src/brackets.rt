@@ -8,7 +8,7 @@ ghost use Rattle.prolog_terms.specs.ReaderSeen.{comma_sides, bar_sides, comma_in
 ghost use Rattle.prolog_terms.specs.ReaderSeen.{tailed_operand, wrapped_operand};
 ghost use Rattle.prolog_terms.specs.StackSeen.{Names as NamesSeen, see_word, see_opened, see_entries, innermost, trees_in, see_held, see_step};
 
-use crate::nodes::{group, tailed, wrapped};
+use crate::nodes::{group, lay_tailed, lay_wrapped};
 use crate::operand::Operand;
 use crate::operator_sides::{BAR_SIDES, COMMA_SIDES};
 use crate::operators::{close, infix_step};
@@ -168,7 +168,7 @@ fn close_wrap(
     ensures { IfOk result (λ goes. (names : NamesSeen) → see_step names state.new goes ≡ goes_seen (see_held names state.old inner).stack
         (has (wrapped_operand (see_word names opening) (see_held names state.old inner).operand (see_word names word)))) }
 {
-    let made = wrapped(&mut state.nodes, opening, inner, word)?;
+    let made = lay_wrapped(&mut state.nodes, opening, inner, word)?;
     state.operand = made;
     state.mode = Mode::Have;
     Ok(true)
@@ -222,7 +222,7 @@ fn close_tailed(
         (has (tailed_operand (see_word names square) (parts (parts_of count (before_last (trees_in names state.old)) none) depth)
         (see_held names state.old tail).operand (see_word names word)))) }
 {
-    let made = tailed(&mut state.nodes, square, count, depth, tail, word)?;
+    let made = lay_tailed(&mut state.nodes, square, count, depth, tail, word)?;
     state.operand = made;
     state.mode = Mode::Have;
     Ok(true)

@@ -21,6 +21,7 @@ mod operand;
 mod operator_sides;
 mod operators;
 mod pending;
+mod read_fault;
 mod reader;
 mod stack;
 mod state;
@@ -33,7 +34,8 @@ mod word;
 pub use binary_term::Binary;
 pub use laws::{clause_depths, clause_weights, one_clause};
 pub use node_list::NodeList;
-pub use reader::{DEEPEST, ReadFault, read_clause, read_onto};
+pub use read_fault::ReadFault;
+pub use reader::{DEEPEST, read_clause, read_onto};
 pub use term::{ConstKind, Form, Parts, Span, Term, TermKind};
 pub use views::{
     atom_name, atom_number, binary, inside, name_and_arity, number_and_args, number_and_arity,

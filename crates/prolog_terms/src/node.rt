@@ -53,7 +53,7 @@ pub const NO_NODE: Node = Node {
 
 /// How many of the terms before it are parts of a node.
 #[inline(always)]
-pub fn taken(shape: Shape) -> usize
+pub fn part_count(shape: Shape) -> usize
     ensures { result ≡ taken shape }
 {
     match shape {

@@ -8,7 +8,7 @@ ghost use Rattle.prolog_terms.specs.Sized.{AreTerms, filled};
 ghost use Rattle.prolog_terms.specs.Terms.{root_tree, tree_in};
 ghost use Rattle.prolog_terms.specs.Views.{inside};
 
-use crate::node::{MANY, NO_NODE, Node, Shape, taken};
+use crate::node::{MANY, NO_NODE, Node, Shape, part_count};
 use crate::term::Span;
 use std::alloc::{AllocError, Global};
 use std::marker::Model;
@@ -167,7 +167,7 @@ impl NodeList {
         ensures within { result ≤ end }
     {
         let mut at = end - 1;
-        let count = taken(node_at(&self.list, at).shape);
+        let count = part_count(node_at(&self.list, at).shape);
         for _part in 0..count {
             if let Some(before) = self.before_sized(at) {
                 at = before;
@@ -238,7 +238,7 @@ impl NodeList {
         ensures { OnOk result ((names : List (List ℕ)) → forest names self.new
             ≡ node_tree names shape span (forest names self.old) ∷ without (taken shape) (forest names self.old)) }
     {
-        let count = taken(shape);
+        let count = part_count(shape);
         self.fill(count)?;
         let end = self.list.len();
         let from = self.before_many(end, count);
@@ -280,7 +280,7 @@ impl NodeList {
     }
 
     /// The same nodes without spare capacity.
-    pub fn copied(&self, alloc: Global) -> Result<NodeList, AllocError>
+    pub fn exact_copy(&self, alloc: Global) -> Result<NodeList, AllocError>
         ensures { IfOk result (λ copy. copy ≡ self.now) }
     {
         let mut list = Vec::with_capacity(alloc, self.list.len())?;

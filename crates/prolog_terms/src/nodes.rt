@@ -23,7 +23,7 @@ use std::alloc::AllocError;
 
 /// From the beginning of one span to the end of another.
 #[inline(always)]
-fn joined(first: Span, last: Span) -> Span
+fn join_spans(first: Span, last: Span) -> Span
     ensures { result ≡ joined_span first last }
 {
     Span {
@@ -115,7 +115,7 @@ pub fn negative(nodes: &mut NodeList, minus: Word, number: Word) -> Result<Opera
     ensures { IfOk result (λ operand. (names : NamesSeen) → see_made (forest names nodes.new) operand
         ≡ made (forest names nodes.old) (negative_operand (see_word names minus) (see_word names number))) }
 {
-    let span = joined(minus.span, number.span);
+    let span = join_spans(minus.span, number.span);
     lay(nodes, negative_shape(number), 0, 1, span)
 }
 
@@ -150,7 +150,7 @@ pub fn pair(
         ≡ made (forest names.now nodes.old) (pair_operand (see_word names.now first) (see_word names.now last))) }
 {
     let name = pair_name(names, first.kind);
-    let span = joined(first.span, last.span);
+    let span = join_spans(first.span, last.span);
     lay(nodes, Shape::Atom { name }, 0, 1, span)
 }
 
@@ -174,18 +174,18 @@ pub fn group(
                 count,
                 form: Form::Functional,
             };
-            let span = joined(functor.span, last.span);
+            let span = join_spans(functor.span, last.span);
             lay(nodes, shape, 0, depth, span)
         }
         Opened::Square(square) => {
-            let span = joined(square.span, last.span);
+            let span = join_spans(square.span, last.span);
             lay(nodes, Shape::List { count }, 0, depth, span)
         }
     }
 }
 
 /// A list with a tail after its bar (ISO/IEC 13211-1, 6.3.5).
-pub fn tailed(
+pub fn lay_tailed(
     nodes: &mut NodeList,
     square: Word,
     count: u32,
@@ -199,7 +199,7 @@ pub fn tailed(
         (see_word names last))) }
 {
     let depth = depth.max(tail.depth).saturating_add(1);
-    let span = joined(square.span, last.span);
+    let span = join_spans(square.span, last.span);
     lay(nodes, Shape::Tailed { count }, 0, depth, span)
 }
 
@@ -215,7 +215,7 @@ fn wrapped_shape(kind: Kind) -> Shape
 }
 
 /// A term in round brackets (ISO/IEC 13211-1, 6.3.4.1) or in curly ones (6.3.6).
-pub fn wrapped(
+pub fn lay_wrapped(
     nodes: &mut NodeList,
     first: Word,
     inner: Operand,
@@ -226,13 +226,13 @@ pub fn wrapped(
         (see_word names last))) }
 {
     let depth = inner.depth.saturating_add(1);
-    let span = joined(first.span, last.span);
+    let span = join_spans(first.span, last.span);
     lay(nodes, wrapped_shape(first.kind), 0, depth, span)
 }
 
 /// An operator before its operand (ISO/IEC 13211-1, 6.3.4.2).
 #[inline(always)]
-fn prefixed(
+fn lay_prefix(
     nodes: &mut NodeList,
     word: Word,
     sides: Sides,
@@ -243,7 +243,7 @@ fn prefixed(
         (see_operand (last_of (forest names nodes.old)) right))) }
 {
     let depth = right.depth.saturating_add(1);
-    let span = joined(word.span, right.span);
+    let span = join_spans(word.span, right.span);
     let shape = Shape::Compound {
         name: word.name,
         count: 1,
@@ -266,7 +266,7 @@ fn infix_name(names: &Names, word: Word) -> u32
 
 /// An operator between its operands (ISO/IEC 13211-1, 6.3.4.2).
 #[inline(always)]
-fn infixed(
+fn lay_infix(
     nodes: &mut NodeList,
     names: &Names,
     left: Operand,
@@ -280,7 +280,7 @@ fn infixed(
         (see_operand (last_of (forest names.now nodes.old)) right))) }
 {
     let depth = left.depth.max(right.depth).saturating_add(1);
-    let span = joined(left.span, right.span);
+    let span = join_spans(left.span, right.span);
     let name = infix_name(names, word);
     let shape = Shape::Compound {
         name,
@@ -291,7 +291,7 @@ fn infixed(
 }
 
 /// An operator after its operand (ISO/IEC 13211-1, 6.3.4.2).
-pub fn postfixed(
+pub fn lay_postfix(
     nodes: &mut NodeList,
     left: Operand,
     word: Word,
@@ -302,7 +302,7 @@ pub fn postfixed(
         (see_word names word) sides)) }
 {
     let depth = left.depth.saturating_add(1);
-    let span = joined(left.span, word.span);
+    let span = join_spans(left.span, word.span);
     let shape = Shape::Compound {
         name: word.name,
         count: 1,
@@ -325,7 +325,7 @@ pub fn build(
         (see_operand (last_of (forest names.now nodes.old)) right))) }
 {
     match *operator {
-        Operator::Prefix { word, sides } => prefixed(nodes, word, sides, right),
-        Operator::Infix { left, word, sides } => infixed(nodes, names, left, word, sides, right),
+        Operator::Prefix { word, sides } => lay_prefix(nodes, word, sides, right),
+        Operator::Infix { left, word, sides } => lay_infix(nodes, names, left, word, sides, right),
     }
 }

@@ -6,7 +6,7 @@ ghost use Rattle.prolog_terms.specs.Words.{table_of};
 ghost use Rattle.prolog_terms.specs.ReaderSeen.{reduced_seen, closed_seen, infix_held, postfix_held, name_step_seen};
 ghost use Rattle.prolog_terms.specs.StackSeen.{Names as NamesSeen, see_word, see_held, see_step};
 
-use crate::nodes::{build, postfixed};
+use crate::nodes::{build, lay_postfix};
 use crate::operand::Operand;
 use crate::operator_sides::{Sides, infix_of, postfix_of};
 use crate::pending::{Operator, Pending};
@@ -89,7 +89,7 @@ fn postfix_behind(
     if left.priority > sides.left {
         return Ok(false);
     }
-    let made = postfixed(&mut state.nodes, left, word, sides)?;
+    let made = lay_postfix(&mut state.nodes, left, word, sides)?;
     state.operand = made;
     state.mode = Mode::Have;
     Ok(true)

@@ -2,7 +2,6 @@ ghost use Rattle.std.specs.Prelude.{◌≡◌, ◌≢◌, ◌≤◌, ◌++◌, L
 ghost use Rattle.prolog_tokens.specs.declared.limits.TheConstants.{MOST_BYTES};
 ghost use Rattle.prolog_ops.specs.Table.{ops_of};
 ghost use Rattle.prolog_terms.specs.declared.node.Node.{Node as NodeOf};
-ghost use Rattle.prolog_terms.specs.declared.reader.ReadFault.TheVariants.{NoMemory};
 ghost use Rattle.prolog_terms.specs.ReaderSeen.{is_finished};
 ghost use Rattle.prolog_terms.specs.StackSeen.{Names as NamesSeen, see_reader};
 ghost use Rattle.prolog_terms.specs.Terms.{root_tree};
@@ -12,38 +11,14 @@ ghost use Rattle.prolog_terms.specs.Clause.{AreClauseTokens, IsOnlyClauseOf, IsO
 use crate::feed::{feed, waiting_floor};
 use crate::node_list::NodeList;
 use crate::operator_sides::table_law;
+use crate::read_fault::ReadFault;
 use crate::state::Mode;
 use crate::waiting::{Reader, Waiting};
 use crate::word::word_of;
 use prolog_names::Names;
 use prolog_ops::OpTable;
 use prolog_tokens::Token;
-use std::alloc::{AllocError, Global};
-use thiserror::Error;
-
-/// Why tokens aren't a clause, each with its byte offset.
-#[derive(Clone, Copy, Debug, PartialEq, Eq, Error)]
-pub enum ReadFault {
-    /// The first token with which no clause continues.
-    #[error("no clause goes on with this token")]
-    Stuck(u32),
-    /// The first token with which only clauses deeper than 1,000 continue.
-    #[error("term is nested deeper than 1000")]
-    TooDeep(u32),
-    /// The length of the text: the tokens end before the clause does.
-    #[error("clause has no end")]
-    NoEnd(u32),
-    #[error("out of memory")]
-    NoMemory,
-}
-
-impl From<AllocError> for ReadFault {
-    ghost from_gives = { λ _ fault. fault ≡ NoMemory };
-
-    fn from(_error: AllocError) -> ReadFault {
-        ReadFault::NoMemory
-    }
-}
+use std::alloc::Global;
 
 /// The greatest depth of a clause.
 pub const DEEPEST: usize = 1000;

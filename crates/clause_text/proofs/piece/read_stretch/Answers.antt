@@ -4,5 +4,5 @@ use Rattle.clause_text.proofs.piece.read_stretch.Goals as goal
 
 pub returns : goal.returns
 returns c =
-    IfOk-then c.shared.result _ _ c.shared.ensures (λ piece h.
+    IfOk-then c.share_list.result _ _ c.share_list.ensures (λ piece h.
     h (ops_of c.args.table.now) c.args.text.now c.args.tokens.now c.args.stretch.now.from c.read_on-read.ensures)

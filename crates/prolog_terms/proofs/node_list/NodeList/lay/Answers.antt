@@ -27,15 +27,15 @@ invariant_of-self-2 c =
     let within : from ≤ end = c.before_many-from.ensures.within in
     let small : size ≤ end - from + 1 = c.size_of-size.ensures.within in
     let place : size < MANY → length nodes + 1 - size ≡ from = λ few. omega (arith, all, within, c.size_of-size.ensures.is few) in
-    let enough : count ≤ terms = omega (arith, c.taken-count.ensures, c.in_ok-fill.ensures.some [], ap (λ ns. length (forest [] ns)) c.self.view_is, c.self.invariant.count []) in
-    subst (λ ns. AreTerms ns (terms - c.taken-count.result + 1)) (sym c.in_ok-push.ensures.items)
-    (subst (λ n. AreTerms (nodes ++ node ∷ []) (terms - n + 1)) (sym c.taken-count.ensures)
+    let enough : count ≤ terms = omega (arith, c.part_count-count.ensures, c.in_ok-fill.ensures.some [], ap (λ ns. length (forest [] ns)) c.self.view_is, c.self.invariant.count []) in
+    subst (λ ns. AreTerms ns (terms - c.part_count-count.result + 1)) (sym c.in_ok-push.ensures.items)
+    (subst (λ n. AreTerms (nodes ++ node ∷ []) (terms - n + 1)) (sym c.part_count-count.ensures)
     (terms_push nodes node terms (omega (arith, c.size_of-size.ensures.some)) (omega (arith, all, small))
     (λ few names.
     ap (λ k. forest names (take k nodes)) (place few)
     ∙ (ap (λ ns. forest names (take from ns)) c.self.view_is
     ∙ (c.before_many-from.ensures.rest names
-    ∙ (ap (λ n. without n (forest names (take end c.fill.new.self))) c.taken-count.ensures
+    ∙ (ap (λ n. without n (forest names (take end c.fill.new.self))) c.part_count-count.ensures
     ∙ ap (λ ns. without count (forest names ns)) (ap (take end) (sym c.self.view_is) ∙ take_all end nodes (omega (arith, all)))))))
     enough c.self.invariant))
 
@@ -46,7 +46,7 @@ returns c = λ names.
     let old = forest names c.args.self.now in
     let count = taken c.args.shape in
     let trees : forest names nodes ≡ filled count old =
-    ap (forest names) c.self.view_is ∙ (c.in_ok-fill.ensures.trees names ∙ ap (λ n. filled n old) c.taken-count.ensures) in
+    ap (forest names) c.self.view_is ∙ (c.in_ok-fill.ensures.trees names ∙ ap (λ n. filled n old) c.part_count-count.ensures) in
     ap (forest names) c.in_ok-push.ensures.items
     ∙ (forest_push names nodes node
     ∙ (ap (λ ts. node_tree names c.args.shape c.args.span ts ∷ without count ts) trees

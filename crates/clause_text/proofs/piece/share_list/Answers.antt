@@ -8,14 +8,14 @@ use Rattle.kept_clauses.specs.Words.{Kept, kept_tree}
 use Rattle.kept_clauses.proofs.KeptClauses.{kept_now}
 use Rattle.clause_text.specs.Clauses.{clause_trees}
 use Rattle.clause_text.specs.Pieces.{LeadTo, KeptEndIs, read_trees}
-use Rattle.clause_text.proofs.piece.shared.Goals as goal
+use Rattle.clause_text.proofs.piece.share_list.Goals as goal
 
 pub returns : goal.returns
 returns c = λ table text ts from is.
     let names = c.args.names.now in
     let read = c.args.read in
     let list : Kept = c.push_last.new.list in
-    let same : arc_value c.in_ok-list-2.list ≡ list = c.in_ok-list-2.ensures.ok ∙ c.in_ok-copied.ensures in
+    let same : arc_value c.in_ok-list-2.list ≡ list = c.in_ok-list-2.ensures.ok ∙ c.in_ok-exact_copy.ensures in
     let each : ℕ → Tree = λ end. plain (tree_in names read.nodes end) in
     let begins = c.in_ok-list.begins.items in
     let trees : clause_trees names c.in_ok-clauses.clauses.items ≡ map plain (read_trees names read) =
