@@ -27,10 +27,10 @@ use Rattle.clause_text.specs.Items.{has_some, items_of}
 use Rattle.clause_text.specs.Clauses.{IsPartFault, EndsFirst, clause_tree, clause_trees, kind_there}
 
 -- the tokens stand side by side in a text that isn't too long, each with the number of its name
-pub record AreRowTokens (text : List ℕ) (tokens : List Token) (numbered : Numbered) : Type 0 where
+pub record AreRowTokens (text : List ℕ) (tokens : List Token) (row : Numbered) : Type 0 where
   pub small : length text ≤ MOST_BYTES
   pub part : ArePart text tokens
-  pub numbered : AreNumbered text numbered.names tokens numbered.numbers.items
+  pub numbered : AreNumbered text row.names tokens row.numbers.items
 
 -- from the table on, the tokens from a place up to another are clauses with these plain trees, and leave the other table
 abbrev pub LeadTo : Ops → List ℕ → List Token → ℕ → List Tree → Ops → ℕ → Type 0

@@ -290,7 +290,12 @@ fn piece_end(list: Arc<KeptList>, at: usize, end: ReadEnd) -> PieceEnd
 
 /// What was read of a stretch up to the token `to`, as clauses that share their list. The list has
 /// no spare capacity.
-fn share_list(alloc: Global, names: &Names, read: ReadStretch, to: usize) -> Result<Piece, AllocError>
+fn share_list(
+    alloc: Global,
+    names: &Names,
+    read: ReadStretch,
+    to: usize,
+) -> Result<Piece, AllocError>
     ensures { IfOk result (λ piece. (table : Ops) (text : List ℕ) (ts : List TokenOf) (from : ℕ)
         → IsRead names.now table text ts from to read → IsPiece names.now table text ts from to piece) }
 {

@@ -8,6 +8,7 @@ mod ListLaws
 mod Meeting
 pub mod OneLeast
 mod PathLaws
+pub mod PathNodes
 mod Searching
 mod Returns
 mod Sorted
