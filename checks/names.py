@@ -45,7 +45,7 @@ def sources(part, ending):
 def nameless_files():
     for _, path, text in sources("src", "rt"):
         types = [snake(it) for it in TYPE.findall(text)]
-        if types and path.stem not in ("lib", "main") and not {path.stem, path.stem.removesuffix("s")} & set(types):
+        if types and path.stem not in ("lib", "main") and not {path.stem, path.stem.removesuffix("s"), path.stem.removesuffix("es")} & set(types):
             yield f"{path.relative_to(ROOT)} holds {', '.join(types)}"
 
 

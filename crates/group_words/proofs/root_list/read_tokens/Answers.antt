@@ -27,7 +27,7 @@ read_clause-requires c = record {
     cut = subst (λ ts. IsCut c.args.text.now ts) (sym (append-nil c.args.tokens.now)) c.requires.cut;
   };
   clause = c.if-not-is_one_clause.ensures.0 refl;
-  numbered = c.in_ok-numbered.ensures;
+  numbered = rw c.as_slice.ensures.value c.in_ok-numbered.ensures;
 }
 
 pub returns : goal.returns
