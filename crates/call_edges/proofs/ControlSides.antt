@@ -10,7 +10,7 @@ use Rattle.call_edges.specs.declared.role.Role.{Role}
 use Rattle.call_edges.specs.declared.role.Way.TheVariants.{Control}
 use Rattle.call_edges.specs.Goals.{place, Taken, taken, taken_by, unmet, by_row, first_two as both_in, settled, way, AddsMet}
 use Rattle.call_edges.specs.PlainCalls.{AreSides}
-use Rattle.call_edges.proofs.MetLemmas.{first_two}
+use Rattle.call_edges.proofs.MetLemmas.{two_arguments}
 use Rattle.call_edges.proofs.WalkLemmas.{paren_walked, compound_walked}
 
 module _ (role : Role) (stays : settled role.arg ≡ role.arg) where
@@ -28,8 +28,8 @@ module _ (role : Role) (stays : settled role.arg ≡ role.arg) where
         let is : apart ≡ taken T span.from owner role name parts = sym (ap (λ w. taken_by T w span.from owner role name parts) control) in
         let P : GoalArg → Type 0 = λ arg. AddsMet T (place owner (record { arg = arg; negated = role.negated }) left) old mid in
         let Q : GoalArg → Type 0 = λ arg. AddsMet T (place owner (record { arg = arg; negated = role.negated }) right) mid new in
-        compound_walked T owner role (compound name args form span) old new name args form span apart parts 2 refl refl is (omega arith)
-        (first_two T apart args left right old old mid new refl (sym (append-nil old)) (subst P (sym stays) first) (subst Q (sym stays) second));
+        compound_walked T owner role (compound name args form span) old new name args form span apart old refl is (sym (append-nil old))
+        (two_arguments T apart args left right old mid new refl (subst P (sym stays) first) (subst Q (sym stays) second));
   }
 
   pub parted : (tree : Tree) (pair : Binary) → binary tree ≡ Some pair → IsParted tree pair

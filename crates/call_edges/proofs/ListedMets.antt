@@ -8,7 +8,7 @@ use Rattle.call_edges.specs.declared.role.Role.{Role}
 use Rattle.call_edges.specs.Goals.{Met, place, Rows, Taken, taken, met_at, argument_role, curly_role, IsMet, AddsMet}
 use Rattle.call_edges.specs.Listed.{mets_in, mets_among}
 use Rattle.list_laws.proofs.OneOrder.{nothing_in}
-use Rattle.call_edges.proofs.MetLemmas.{adds_own, adds_part, AddsFirst, first_none, first_more, first_all}
+use Rattle.call_edges.proofs.MetLemmas.{adds_own, adds_part, compound_adds, AddsBelow, below_none, below_more, below_all}
 
 -- the trees are those of the list from a place on
 record AreFrom (all : List Tree) (k : ℕ) (trees : List Tree) : Type 0 where
@@ -27,10 +27,12 @@ module _ (T : Rows) where
     mets_add owner role (compound name args form span) old =
         let apart = taken T span.from owner role name (trees_in args) in
         let own = old ++ option_to_list apart.met in
-        let first : AddsFirst T apart (trees_in args) 0 old own = first_none T apart (trees_in args) old own refl in
-        let all = among_add apart (trees_in args) 0 args old own (record { each = λ i. ap (slice_get (trees_in args)) (omega arith) }) first in
         let new = own ++ mets_among T apart 0 args in
-        let whole = first_all T owner role name args form span (0 + length (trees_in args)) old new (omega arith) all in
+        let all =
+        among_add apart (trees_in args) 0 args own own (record { each = λ i. ap (slice_get (trees_in args)) (omega arith) })
+        (below_none T apart (trees_in args) own) in
+        let adds = below_all T apart (trees_in args) (0 + length (trees_in args)) own new (omega arith) all in
+        let whole = compound_adds T owner role name args form span old own new refl adds in
         let Q : List Met → Type 0 = λ xs. AddsMet T (place owner role (compound name args form span)) old xs in
         subst Q (append_assoc old (option_to_list apart.met) (mets_among T apart 0 args)) whole
     mets_add owner role (listed items span) old = adds_own T (place owner role (listed items span)) old (old ++ []) (λ q is. is) refl
@@ -42,23 +44,23 @@ module _ (T : Rows) where
         adds_part T (place owner role (paren inner span)) (place owner role inner) old (old ++ mets_in T owner role inner) refl (λ x same. same) refl
         (mets_add owner role inner old)
 
-    among_add : (apart : Taken) (all : List Tree) (k : ℕ) (trees : Trees) (old mid : List Met) → AreFrom all k (trees_in trees) → AddsFirst T apart all k old mid
-        → AddsFirst T apart all (k + length (trees_in trees)) old (mid ++ mets_among T apart k trees)
+    among_add : (apart : Taken) (all : List Tree) (k : ℕ) (trees : Trees) (old mid : List Met) → AreFrom all k (trees_in trees) → AddsBelow T apart all k old mid
+        → AddsBelow T apart all (k + length (trees_in trees)) old (mid ++ mets_among T apart k trees)
     among_add apart all k none old mid are first =
-        let P : ℕ → Type 0 = λ n. AddsFirst T apart all n old (mid ++ []) in
-        let Q : List Met → Type 0 = λ xs. AddsFirst T apart all k old xs in
+        let P : ℕ → Type 0 = λ n. AddsBelow T apart all n old (mid ++ []) in
+        let Q : List Met → Type 0 = λ xs. AddsBelow T apart all k old xs in
         let here : k ≡ k + 0 = omega arith in
         subst P here (subst Q (sym (append-nil mid)) first)
     among_add apart all k (more tree trees) old mid are first =
         let read : slice_get all k ≡ Some tree = ap (slice_get all) (omega arith) ∙ are.each 0 in
         let own = mets_in T apart.module_ (argument_role apart k) tree in
-        let next = first_more T apart all k tree old mid (mid ++ own) read first (mets_add apart.module_ (argument_role apart k) tree mid) in
+        let next = below_more T apart all k tree old mid (mid ++ own) read first (mets_add apart.module_ (argument_role apart k) tree mid) in
         let rest : AreFrom all (k + 1) (trees_in trees) = record { each = λ i. ap (slice_get all) (omega arith) ∙ are.each (suc i) } in
         let later = among_add apart all (k + 1) trees old (mid ++ own) rest next in
         let count : (k + 1) + length (trees_in trees) ≡ k + length (tree ∷ trees_in trees) = omega arith in
         let more_mets = mets_among T apart (k + 1) trees in
-        let P : ℕ → Type 0 = λ n. AddsFirst T apart all n old ((mid ++ own) ++ more_mets) in
-        let Q : List Met → Type 0 = λ xs. AddsFirst T apart all (k + length (tree ∷ trees_in trees)) old xs in
+        let P : ℕ → Type 0 = λ n. AddsBelow T apart all n old ((mid ++ own) ++ more_mets) in
+        let Q : List Met → Type 0 = λ xs. AddsBelow T apart all (k + length (tree ∷ trees_in trees)) old xs in
         subst Q (append_assoc mid own more_mets) (subst P count later)
 
   -- the list has just what is met

@@ -11,7 +11,8 @@ use Rattle.module_table.specs.declared.goal_arg.GoalArg.{GoalArg}
 use Rattle.module_table.specs.declared.goal_arg.GoalArg.TheVariants.{Plain}
 use Rattle.call_edges.specs.declared.role.Role.{Role}
 use Rattle.call_edges.specs.Goals.{Met, Place, place, Rows, no_goals, Taken, taken, met_at, role_at, argument_role, IsArgument, IsPart, Leads, IsMet, Adds, AddsMet}
-use Rattle.call_edges.proofs.AddsLemmas.{adds_as, adds_option, adds_then}
+use Rattle.call_edges.specs.Arguments.{IsMetInArgument, AddsArguments}
+use Rattle.call_edges.proofs.AddsLemmas.{adds_as, adds_nothing, adds_option, adds_then}
 use Rattle.module_table.proofs.Shapes.{only_seen, pair_seen}
 
 place_same : (q : Place) (owner : List ℕ) (role : Role) (tree : Tree) → q.module_ ≡ owner → q.role ≡ role → q.tree ≡ tree → q ≡ place owner role tree
@@ -109,7 +110,7 @@ module _ (T : Rows) where
       ])
       adds
 
-  -- a compound: what is met at it itself, and in its arguments below a place
+  -- what is met in the arguments of a compound below a place
 
   pub record IsMetBelow (apart : Taken) (args : List Tree) (k : ℕ) (m : Met) : Type 0 where
     pub part : Place
@@ -117,39 +118,29 @@ module _ (T : Rows) where
     pub below : is.i < k
     pub met : IsMet T part m
 
-  abbrev pub IsMetFirst : Taken → List Tree → ℕ → Met → Type 0
-  IsMetFirst apart args k m = (apart.met ≡ Some m) ⊎ IsMetBelow apart args k m
+  abbrev pub AddsBelow : Taken → List Tree → ℕ → List Met → List Met → Type 0
+  AddsBelow apart args k old new = Adds (IsMetBelow apart args k) old new
 
-  abbrev pub AddsFirst : Taken → List Tree → ℕ → List Met → List Met → Type 0
-  AddsFirst apart args k old new = Adds (IsMetFirst apart args k) old new
+  pub below_none : (apart : Taken) (args : List Tree) (mets : List Met) → AddsBelow apart args 0 mets mets
+  below_none apart args mets = adds_nothing (IsMetBelow apart args 0) mets (λ m it. omega (arith, it.below))
 
-  pub first_none : (apart : Taken) (args : List Tree) (old new : List Met) → new ≡ old ++ option_to_list apart.met → AddsFirst apart args 0 old new
-  first_none apart args old new is =
-      adds_option (IsMetFirst apart args 0) apart.met old new
-      (λ m first. elim first [ inl here ↦ here | inr below ↦ absurd (omega (arith, below.below)) ])
-      (λ m here. inl here) is
-
-  pub first_more : (apart : Taken) (args : List Tree) (k : ℕ) (tree : Tree) (old mid new : List Met) → slice_get args k ≡ Some tree
-      → AddsFirst apart args k old mid → AddsMet T (argument_at apart k tree) mid new → AddsFirst apart args (k + 1) old new
-  first_more apart args k tree old mid new at first adds =
-      adds_as (λ m. IsMetFirst apart args k m ⊎ IsMet T (argument_at apart k tree) m) (IsMetFirst apart args (k + 1)) old new to from
-      (adds_then (IsMetFirst apart args k) (IsMet T (argument_at apart k tree)) old mid new first adds)
+  pub below_more : (apart : Taken) (args : List Tree) (k : ℕ) (tree : Tree) (old mid new : List Met) → slice_get args k ≡ Some tree
+      → AddsBelow apart args k old mid → AddsMet T (argument_at apart k tree) mid new → AddsBelow apart args (k + 1) old new
+  below_more apart args k tree old mid new at before adds =
+      adds_as (λ m. IsMetBelow apart args k m ⊎ IsMet T (argument_at apart k tree) m) (IsMetBelow apart args (k + 1)) old new to from
+      (adds_then (IsMetBelow apart args k) (IsMet T (argument_at apart k tree)) old mid new before adds)
     where
-      to : (m : Met) → IsMetFirst apart args k m ⊎ IsMet T (argument_at apart k tree) m → IsMetFirst apart args (k + 1) m
+      to : (m : Met) → IsMetBelow apart args k m ⊎ IsMet T (argument_at apart k tree) m → IsMetBelow apart args (k + 1) m
       to m either =
           elim either [
-            | inl before ↦
-                elim before [
-                  | inl own ↦ inl own
-                  | inr below ↦ inr (record { part = below.part; is = below.is; below = omega (arith, below.below); met = below.met })
-                ]
+            | inl it ↦ record { part = it.part; is = it.is; below = omega (arith, it.below); met = it.met }
             | inr met ↦
-                inr (record {
+                record {
                   part = argument_at apart k tree;
                   is = record { i = k; argument = at; in_module = refl; stands = refl };
                   below = omega arith;
                   met = met;
-                })
+                }
           ]
 
       same : (part : Place) (is : IsArgument apart args part) → is.i ≡ k → part ≡ argument_at apart k tree
@@ -157,67 +148,64 @@ module _ (T : Rows) where
           place_same part apart.module_ (argument_role apart k) tree is.in_module (is.stands ∙ ap (argument_role apart) equal)
           (same_Some part.tree tree (sym is.argument ∙ (ap (slice_get args) equal ∙ at)))
 
-      from : (m : Met) → IsMetFirst apart args (k + 1) m → IsMetFirst apart args k m ⊎ IsMet T (argument_at apart k tree) m
-      from m either =
-          elim either [
-            | inl own ↦ inl (inl own)
-            | inr below ↦
-                elim (cases_eq below.is.i k) [
-                  | inl equal ↦ inr (subst (λ (x : Place). IsMet T x m) (same below.part below.is equal) below.met)
-                  | inr other ↦ inl (inr (record { part = below.part; is = below.is; below = omega (arith, below.below, other); met = below.met }))
-                ]
+      from : (m : Met) → IsMetBelow apart args (k + 1) m → IsMetBelow apart args k m ⊎ IsMet T (argument_at apart k tree) m
+      from m it =
+          elim (cases_eq it.is.i k) [
+            | inl equal ↦ inr (subst (λ (x : Place). IsMet T x m) (same it.part it.is equal) it.met)
+            | inr other ↦ inl (record { part = it.part; is = it.is; below = omega (arith, it.below, other); met = it.met })
           ]
 
-  pub first_all : (owner : List ℕ) (role : Role) (name : List ℕ) (args : Trees) (form : Form) (span : Span) (k : ℕ) (old new : List Met)
-      → length (trees_in args) ≤ k → AddsFirst (taken T span.from owner role name (trees_in args)) (trees_in args) k old new
-      → AddsMet T (compound_at owner role name args form span) old new
-  first_all owner role name args form span k old new all first =
-      adds_as (IsMetFirst (taken T span.from owner role name (trees_in args)) (trees_in args) k) (IsMet T (compound_at owner role name args form span)) old new to back first
-    where
-      to : (m : Met) → IsMetFirst (taken T span.from owner role name (trees_in args)) (trees_in args) k m → IsMet T (compound_at owner role name args form span) m
-      to m either =
-          elim either [
-            | inl own ↦ met_here (compound_at owner role name args form span) m own
-            | inr below ↦ met_within (compound_at owner role name args form span) m (record { part = below.part; is = below.is; met = below.met })
-          ]
-
-      behind : (m : Met) → IsWithinPart (compound_at owner role name args form span) m
-          → IsMetBelow (taken T span.from owner role name (trees_in args)) (trees_in args) k m
-      behind m within = record {
-        part = within.part;
-        is = within.is;
-        below = omega (arith, slice_get_within (trees_in args) within.is.i within.part.tree within.is.argument, all);
-        met = within.met;
-      }
-
-      back : (m : Met) → IsMet T (compound_at owner role name args form span) m → IsMetFirst (taken T span.from owner role name (trees_in args)) (trees_in args) k m
-      back m met = elim (parted (compound_at owner role name args form span) m met) [ inl own ↦ inl own | inr within ↦ inr (behind m within) ]
+  pub below_all : (apart : Taken) (args : List Tree) (k : ℕ) (old new : List Met) → length args ≤ k → AddsBelow apart args k old new → AddsArguments T apart args old new
+  below_all apart args k old new all adds =
+      adds_as (IsMetBelow apart args k) (IsMetInArgument T apart args) old new (λ m it. record { part = it.part; is = it.is; met = it.met })
+      (λ m it.
+      record { part = it.part; is = it.is; below = omega (arith, slice_get_within args it.is.i it.part.tree it.is.argument, all); met = it.met })
+      adds
 
   -- where none of the arguments is a goal nothing is met in them
-  pub first_rowless : (apart : Taken) (args : List Tree) (k : ℕ) (old new : List Met) → apart.standing ≡ no_goals → AddsFirst apart args 0 old new → AddsFirst apart args k old new
-  first_rowless apart args k old new none first =
-      adds_as (IsMetFirst apart args 0) (IsMetFirst apart args k) old new
-      (λ m either. elim either [ inl own ↦ inl own | inr below ↦ absurd (omega (arith, below.below)) ])
-      (λ m either.
-      elim either [
-        | inl own ↦ inl own
-        | inr below ↦ absurd (plain_silent below.part m (ap (λ (r : Role). r.arg) below.is.stands ∙ ap (λ standing. role_at standing below.is.i) none) below.met)
-      ])
-      first
+  pub silent_arguments : (apart : Taken) (args : List Tree) (mets : List Met) → apart.standing ≡ no_goals → AddsArguments T apart args mets mets
+  silent_arguments apart args mets none =
+      adds_nothing (IsMetInArgument T apart args) mets
+      (λ m it. plain_silent it.part m (ap (λ (r : Role). r.arg) it.is.stands ∙ ap (λ standing. role_at standing it.is.i) none) it.met)
 
   -- one argument, or two
 
-  pub first_one : (apart : Taken) (args : Trees) (tree : Tree) (old mid new : List Met) → only_of args ≡ Some tree → mid ≡ old ++ option_to_list apart.met
-      → AddsMet T (argument_at apart 0 tree) mid new → AddsFirst apart (trees_in args) 1 old new
-  first_one apart args tree old mid new one is adds =
-      first_more apart (trees_in args) 0 tree old mid new (ap (λ ts. slice_get (trees_in ts) 0) (only_seen args tree one))
-      (first_none apart (trees_in args) old mid is) adds
+  pub only_argument : (apart : Taken) (args : Trees) (tree : Tree) (old new : List Met) → only_of args ≡ Some tree
+      → AddsMet T (argument_at apart 0 tree) old new → AddsArguments T apart (trees_in args) old new
+  only_argument apart args tree old new one adds =
+      let are : trees_in args ≡ tree ∷ [] = ap trees_in (only_seen args tree one) in
+      below_all apart (trees_in args) 1 old new (omega (arith, ap length are))
+      (below_more apart (trees_in args) 0 tree old old new (ap (λ ts. slice_get ts 0) are) (below_none apart (trees_in args) old) adds)
 
-  pub first_two : (apart : Taken) (args : Trees) (left right : Tree) (old mid between new : List Met) → pair_of args ≡ Some (left, right)
-      → mid ≡ old ++ option_to_list apart.met → AddsMet T (argument_at apart 0 left) mid between → AddsMet T (argument_at apart 1 right) between new
-      → AddsFirst apart (trees_in args) 2 old new
-  first_two apart args left right old mid between new two is first second =
+  pub two_arguments : (apart : Taken) (args : Trees) (left right : Tree) (old mid new : List Met) → pair_of args ≡ Some (left, right)
+      → AddsMet T (argument_at apart 0 left) old mid → AddsMet T (argument_at apart 1 right) mid new → AddsArguments T apart (trees_in args) old new
+  two_arguments apart args left right old mid new two first second =
       let are : trees_in args ≡ left ∷ right ∷ [] = ap trees_in (pair_seen args left right two) in
-      first_more apart (trees_in args) 1 right old between new (ap (λ ts. slice_get ts 1) are)
-      (first_more apart (trees_in args) 0 left old mid between (ap (λ ts. slice_get ts 0) are) (first_none apart (trees_in args) old mid is) first)
-      second
+      below_all apart (trees_in args) 2 old new (omega (arith, ap length are))
+      (below_more apart (trees_in args) 1 right old mid new (ap (λ ts. slice_get ts 1) are)
+      (below_more apart (trees_in args) 0 left old old mid (ap (λ ts. slice_get ts 0) are) (below_none apart (trees_in args) old) first) second)
+
+  -- a compound: what is met at it itself, and in its arguments
+
+  module _ (owner : List ℕ) (role : Role) (name : List ℕ) (args : Trees) (form : Form) (span : Span) where
+    abbrev apart : Taken
+    apart = taken T span.from owner role name (trees_in args)
+
+    abbrev IsMetThere : Met → Type 0
+    IsMetThere m = (apart.met ≡ Some m) ⊎ IsMetInArgument T apart (trees_in args) m
+
+    abbrev whole : Place
+    whole = compound_at owner role name args form span
+
+    to_whole : (m : Met) → IsMetThere m → IsMet T whole m
+    to_whole m either =
+        elim either [ inl own ↦ met_here whole m own | inr it ↦ met_within whole m (record { part = it.part; is = it.is; met = it.met }) ]
+
+    of_whole : (m : Met) → IsMet T whole m → IsMetThere m
+    of_whole m met = elim (parted whole m met) [ inl own ↦ inl own | inr it ↦ inr (record { part = it.part; is = it.is; met = it.met }) ]
+
+    pub compound_adds : (old mid new : List Met) → mid ≡ old ++ option_to_list apart.met → AddsArguments T apart (trees_in args) mid new → AddsMet T whole old new
+    compound_adds old mid new is adds =
+        adds_as IsMetThere (IsMet T whole) old new to_whole of_whole
+        (adds_then (λ m. apart.met ≡ Some m) (IsMetInArgument T apart (trees_in args)) old mid new
+        (adds_option (λ m. apart.met ≡ Some m) apart.met old mid (λ m own. own) (λ m own. own) is) adds)

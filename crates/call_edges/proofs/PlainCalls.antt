@@ -15,7 +15,7 @@ use Rattle.call_edges.specs.Goals.{Met, call, place, no_goals, Rows, Taken, take
 use Rattle.call_edges.specs.PlainCalls.{IsPlain}
 use Rattle.call_edges.specs.ProgramRows.{rows_of, standing_by}
 use Rattle.call_edges.proofs.FreeNames.{IsFree, row_none, way_calls, atom_calls}
-use Rattle.call_edges.proofs.MetLemmas.{first_none, first_rowless}
+use Rattle.call_edges.proofs.MetLemmas.{silent_arguments}
 use Rattle.call_edges.proofs.PartLemmas.{length_count}
 use Rattle.call_edges.proofs.TakenLemmas.{called_at, calling_is}
 use Rattle.call_edges.proofs.WalkLemmas.{atom_walked, paren_walked, compound_walked}
@@ -41,8 +41,7 @@ module _ (T : Rows) (owner : List ℕ) (role : Role) (goal : role.arg ≢ Plain)
       let many : arity ≡ length parts + added role.arg = count_is ∙ ap (λ n. n + added role.arg) (sym (length_count args)) in
       let is : apart ≡ taken T span.from owner role name parts =
       calling_is T span.from owner role name parts arity (added role.arg) no_goals (way_calls name free role.arg (length parts) goal) many refl (sym none_of) in
-      compound_walked T owner role (compound name args form span) old new name args form span apart parts (length parts) refl refl is (omega arith)
-      (first_rowless T apart parts (length parts) old new refl (first_none T apart parts old new refl))
+      compound_walked T owner role (compound name args form span) old new name args form span apart new refl is refl (silent_arguments T apart parts new refl)
 
   atom_plain : (name : List ℕ) (span : Span) (arity : ℕ) → IsCalled (atom name span) arity (record { name = name; args = none })
   atom_plain name span arity free count_is none_of =

@@ -1,7 +1,6 @@
 -- What the walk adds at terms of each form.
-use Rattle.std.proofs.Common.{◌≡◌, ℕ, ◌+◌, ◌*◌, ◌<◌, ◌≤◌, List, [], ◌++◌, Option, Some, Result, Ok, Err, OnOk, Bool, length, slice_get, ap, sym, ◌∙◌, subst, refl, arith, append-nil}
+use Rattle.std.proofs.Common.{◌≡◌, ℕ, ◌+◌, ◌*◌, ◌≤◌, List, [], ◌++◌, Option, Result, Ok, Err, OnOk, Bool, ap, sym, ◌∙◌, subst, refl, arith, append-nil}
 use Rattle.std.specs.Option.{option_to_list}
-use Rattle.std.proofs.lemmas.Option.{slice_get_within}
 use Rattle.prolog_terms.specs.declared.term.Span.{Span}
 use Rattle.prolog_terms.specs.declared.term.Form.{Form}
 use Rattle.prolog_terms.specs.declared.term.ConstKind.{ConstKind}
@@ -10,26 +9,23 @@ use Rattle.prolog_terms.specs.Views.{trees_in}
 use Rattle.prolog_terms.specs.Weight.{weight}
 use Rattle.module_table.specs.Metas.{added}
 use Rattle.call_edges.specs.declared.role.Role.{Role}
-use Rattle.call_edges.specs.Goals.{Met, place, Rows, Taken, taken, argument_role, atom_met, constant_met, curly_role, AddsMet}
+use Rattle.call_edges.specs.Goals.{Met, place, Rows, Taken, taken, role_at, atom_met, constant_met, curly_role, AddsMet}
+use Rattle.call_edges.specs.Arguments.{AreLightArguments, AddsArguments}
 use Rattle.call_edges.proofs.AddedLemmas.{RowsWithin, argument_within}
-use Rattle.call_edges.proofs.PartLemmas.{part_count}
-use Rattle.call_edges.proofs.MetLemmas.{adds_own, adds_part, AddsFirst, first_all}
+use Rattle.call_edges.proofs.MetLemmas.{adds_own, adds_part, compound_adds}
 
 pub on_ok : {X E : Type 0} {P Q : Type 0} (r : Result X E) → OnOk r P → (P → Q) → OnOk r Q
 on_ok (Ok x) p then = then p
 on_ok (Err e) p then = tt
 
--- an argument weighs less than its compound, and with what is added to it as little as it has to
-module _ (T : Rows) (within : RowsWithin T) (owner : List ℕ) (role : Role) (tree : Tree) (name : List ℕ) (args : Trees) (form : Form) (span : Span) (apart : Taken) where
-  pub part_falls : (i : ℕ) (part : Tree) (given : Role) → compound name args form span ≡ tree → apart ≡ taken T span.from owner role name (trees_in args)
-      → slice_get (trees_in args) i ≡ Some part → given ≡ argument_role apart i → added role.arg + 10 * weight tree ≤ 4294967295
-      → (weight part < weight tree) × (added given.arg + 10 * weight part ≤ 4294967295)
-  part_falls i part given is same read stands small =
-      let own : given ≡ argument_role (taken T span.from owner role name (trees_in args)) i = stands ∙ ap (λ (a : Taken). argument_role a i) same in
-      let few = slice_get_within (trees_in args) i part read in (
-        omega (arith, part_count args i part read, few, ap weight is),
-        omega (arith, argument_within T within span.from owner role name args i part read, ap (λ (r : Role). added r.arg) own, ap weight is, small),
-      )
+-- arguments of a compound that is light enough to be walked are so
+pub light_arguments : (T : Rows) (within : RowsWithin T) (owner : List ℕ) (role : Role) (tree : Tree) (name : List ℕ) (args : Trees) (form : Form) (span : Span) (apart : Taken)
+    → compound name args form span ≡ tree → apart ≡ taken T span.from owner role name (trees_in args) → added role.arg + 10 * weight tree ≤ 4294967295
+    → AreLightArguments apart (trees_in args)
+light_arguments T within owner role tree name args form span apart is same small = record {
+  each = λ i part read.
+      omega (arith, argument_within T within span.from owner role name args i part read, ap (λ (a : Taken). added (role_at a.standing i)) same, ap weight is, small);
+}
 
 module _ (T : Rows) (owner : List ℕ) (role : Role) (tree : Tree) (old new : List Met) where
   -- what the walk has to add
@@ -64,11 +60,10 @@ module _ (T : Rows) (owner : List ℕ) (role : Role) (tree : Tree) (old new : Li
   paren_walked inner span is adds =
       subst IsWalked is (adds_part T (place owner role (paren inner span)) (place owner role inner) old new refl (λ x same. same) refl adds)
 
-  pub compound_walked : (name : List ℕ) (args : Trees) (form : Form) (span : Span) (apart : Taken) (items : List Tree) (k : ℕ) → compound name args form span ≡ tree
-      → items ≡ trees_in args → apart ≡ taken T span.from owner role name (trees_in args) → length items ≤ k → AddsFirst T apart items k old new → IsWalked tree
-  compound_walked name args form span apart items k is same_items same all first =
-      let few : length (trees_in args) ≤ k = subst (λ (xs : List Tree). length xs ≤ k) same_items all in
-      let own : AddsFirst T apart (trees_in args) k old new = subst (λ (xs : List Tree). AddsFirst T apart xs k old new) same_items first in
-      let here : AddsFirst T (taken T span.from owner role name (trees_in args)) (trees_in args) k old new =
-      subst (λ (a : Taken). AddsFirst T a (trees_in args) k old new) same own in
-      subst IsWalked is (first_all T owner role name args form span k old new few here)
+  pub compound_walked : (name : List ℕ) (args : Trees) (form : Form) (span : Span) (apart : Taken) (mid : List Met) → compound name args form span ≡ tree
+      → apart ≡ taken T span.from owner role name (trees_in args) → mid ≡ old ++ option_to_list apart.met → AddsArguments T apart (trees_in args) mid new
+      → IsWalked tree
+  compound_walked name args form span apart mid is same own adds =
+      let P : Taken → Type 0 = λ a. mid ≡ old ++ option_to_list a.met in
+      let Q : Taken → Type 0 = λ a. AddsArguments T a (trees_in args) mid new in
+      subst IsWalked is (compound_adds T owner role name args form span old mid new (subst P same own) (subst Q same adds))

@@ -1,5 +1,6 @@
 pub mod Goals
 pub mod ProgramRows
+pub mod Arguments
 pub mod Seen
 pub mod Meant
 pub mod PlainCalls

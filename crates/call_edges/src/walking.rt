@@ -1,10 +1,12 @@
 //! Walking a body: the goals that occur in it.
 
-ghost use Rattle.std.specs.Prelude.{◌≡◌, ◌≤◌, ◌+◌, ◌*◌, ◌++◌, true, map, option_map, IfSome, OnOk};
+ghost use Rattle.std.specs.Prelude.{◌≡◌, ◌≤◌, ◌+◌, ◌*◌, ◌++◌, true, option_map, IfSome, OnOk};
 ghost use Rattle.std.specs.Option.{option_to_list};
-ghost use Rattle.prolog_terms.specs.Terms.{tree_of};
+ghost use Rattle.prolog_terms.specs.Terms.{tree_of, trees_of};
+ghost use Rattle.prolog_terms.specs.Views.{trees_in};
 ghost use Rattle.prolog_terms.specs.Weight.{weight};
 ghost use Rattle.module_table.specs.Metas.{added};
+ghost use Rattle.call_edges.specs.Arguments.{AddsArguments, AreLightArguments};
 ghost use Rattle.call_edges.specs.Goals.{argument_role, atom_met, calls_atom, constant_met, curly_arg, curly_role, row_role, role_at, no_goals, place, AddsMet};
 ghost use Rattle.call_edges.specs.Meant.{AreMeant, IsMeant};
 ghost use Rattle.call_edges.specs.ProgramRows.{rows_of};
@@ -17,7 +19,7 @@ use crate::role::{Meant, Met, Role, Row, Standing, Taken};
 use crate::table::is_one_of;
 use import_rules::Program;
 use module_table::GoalArg;
-use prolog_terms::{ConstKind, Term, TermKind, number_and_arity};
+use prolog_terms::{ConstKind, Parts, Term, TermKind, number_and_arity};
 use std::alloc::{AllocError, Global};
 
 /// The goal at a constant at this byte offset. No constant is callable, except that texts are allowed
@@ -165,7 +167,8 @@ pub fn push_met<'a>(met: &mut Vec<Met<'a>>, one: Option<Met<'a>>) -> Result<(), 
 /// Adds the goals that occur within a term with this role in a body of the module `owner`.
 ///
 /// A compound's name is looked up only if a predicate declares goals, and what it means is
-/// recorded. One argument or two, as most goals have, are walked without memory.
+/// recorded.
+#[cycle(walking)]
 pub fn walk<'a>(
     alloc: Global,
     program: &'a Program,
@@ -196,28 +199,49 @@ pub fn walk<'a>(
             let number = name_number(term);
             let taken = take_apart(program, term.span().from, owner, role, name, number, &args);
             push_met(met, taken.met)?;
-            if is_silent(taken.standing) {
-                return Ok(());
-            }
-            let first = role_of(&taken, 0);
-            if let Some(only) = args.only() {
-                return walk(alloc, program, &only, taken.module, first, met);
-            }
-            if let Some((left, right)) = args.pair() {
-                walk(alloc, program, &left, taken.module, first, met)?;
-                let second = role_of(&taken, 1);
-                return walk(alloc, program, &right, taken.module, second, met);
-            }
-            let terms = args.to_vec(alloc)?;
-            for (at, arg) in terms.iter().enumerate() {
-                let own = role_of(&taken, at);
-                walk(alloc, program, arg, taken.module, own, met)?;
-            }
-            Ok(())
+            walk_args(alloc, program, &args, &taken, met)
         }
         TermKind::List { .. } => Ok(()),
         TermKind::Tailed { .. } => Ok(()),
         TermKind::Curly { inner } => walk(alloc, program, &inner, owner, curly_role(role), met),
         TermKind::Paren { inner } => walk(alloc, program, &inner, owner, role, met),
     }
+}
+
+/// Adds the goals that occur within the arguments of a compound that was taken apart, from the first
+/// argument to the last.
+///
+/// Where no argument is a goal none is read. One argument or two, as most goals have, are walked
+/// without memory, and others need a list of them.
+#[cycle(walking)]
+fn walk_args<'a>(
+    alloc: Global,
+    program: &'a Program,
+    args: &Parts<'a>,
+    taken: &Taken<'a>,
+    met: &mut Vec<Met<'a>>,
+) -> Result<(), AllocError>
+    requires { AreLightArguments (see_taken taken.now) (trees_in (trees_of args.now)) }
+    ensures met { OnOk result (AddsArguments (rows_of program.now) (see_taken taken.now) (trees_in (trees_of args.now))
+        (see_mets met.old.items) (see_mets met.new.items)) }
+    ensures meant { OnOk result (AreMeant program.now met.old.items → AreMeant program.now met.new.items) }
+{
+    if is_silent(taken.standing) {
+        return Ok(());
+    }
+    let first = role_of(taken, 0);
+    if let Some(only) = args.only() {
+        return walk(alloc, program, &only, taken.module, first, met);
+    }
+    if let Some((left, right)) = args.pair() {
+        walk(alloc, program, &left, taken.module, first, met)?;
+        let second = role_of(taken, 1);
+        return walk(alloc, program, &right, taken.module, second, met);
+    }
+    let terms = args.to_vec(alloc)?;
+    for (at, arg) in terms.iter().enumerate() {
+        let own = role_of(taken, at);
+        walk(alloc, program, arg, taken.module, own, met)?;
+    }
+    Ok(())
 }
