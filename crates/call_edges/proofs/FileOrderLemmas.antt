@@ -16,7 +16,7 @@ use Rattle.module_table.specs.Defined.{Predicate}
 use Rattle.module_table.specs.Facts.{Facts}
 use Rattle.import_rules.specs.Program.{Seen}
 use Rattle.call_edges.specs.FileOrder.{AreStarts, first_offset, first_start, node_of, offset_at, offset_in, place_number, see_start, start_in, start_place}
-use Rattle.call_edges.specs.declared.file_order.Start.{Start}
+use Rattle.call_edges.specs.declared.starts.Start.{Start}
 
 -- the first of the clauses is the first of their trees
 pub offset_of_first : (names : List (List ℕ)) (clauses : List Clause) (clause : Clause) → slice_get clauses 0 ≡ Some clause

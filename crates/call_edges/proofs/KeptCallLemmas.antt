@@ -7,7 +7,7 @@ use Rattle.std.proofs.lemmas.Option.{slice_get_read}
 use Rattle.std.proofs.Math.Seq.{drop-append_seam}
 use Rattle.list_laws.proofs.Members.{any_there, any_from}
 use Rattle.import_rules.specs.Program.{Seen}
-use Rattle.call_edges.specs.declared.kept_calls.PieceCalls.{PieceCalls}
+use Rattle.call_edges.specs.declared.piece_calls.PieceCalls.{PieceCalls}
 use Rattle.call_edges.specs.declared.placed_calls.PlacedCall.{PlacedCall}
 use Rattle.call_edges.specs.Goals.{Met, Adds}
 use Rattle.call_edges.specs.ProgramRows.{rows_of}

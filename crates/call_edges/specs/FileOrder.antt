@@ -5,7 +5,7 @@ use Rattle.prolog_terms.specs.Views.{start_of}
 use Rattle.module_table.specs.Defined.{Predicate}
 use Rattle.module_table.specs.Facts.{Facts}
 use Rattle.import_rules.specs.Program.{Seen, places_in}
-use Rattle.call_edges.specs.declared.file_order.Start.{Start}
+use Rattle.call_edges.specs.declared.starts.Start.{Start}
 
 -- the offset at which the first of the clauses starts; 0 where there is none
 abbrev pub first_offset : List Tree → ℕ

@@ -5,7 +5,7 @@ use Rattle.std.specs.List.{flat_map, filter_map, list_any}
 use Rattle.std.specs.Option.{option_eq}
 use Rattle.std.specs.Str.{bytes_eq}
 use Rattle.import_rules.specs.Program.{Seen}
-use Rattle.call_edges.specs.declared.kept_calls.PieceCalls.{PieceCalls}
+use Rattle.call_edges.specs.declared.piece_calls.PieceCalls.{PieceCalls}
 use Rattle.call_edges.specs.declared.piece.TheConstants.{PIECE_SIZE}
 use Rattle.call_edges.specs.declared.placed_calls.PlacedCall.{PlacedCall}
 use Rattle.call_edges.specs.Bodies.{Body, bodies_in}

@@ -3,7 +3,7 @@ use Rattle.std.specs.Prelude.{ℕ, ◌≡◌, ◌<◌, ◌*◌, List, Bool, true
 use Rattle.std.specs.List.{AllZip, range_with_len}
 use Rattle.std.specs.declared.alloc.AllocError.{AllocError}
 use Rattle.import_rules.specs.Program.{Seen}
-use Rattle.call_edges.specs.declared.kept_calls.PieceCalls.{PieceCalls}
+use Rattle.call_edges.specs.declared.piece_calls.PieceCalls.{PieceCalls}
 use Rattle.call_edges.specs.declared.piece.OpenedPiece.{OpenedPiece}
 use Rattle.call_edges.specs.declared.piece.Piece.{Piece}
 use Rattle.call_edges.specs.declared.piece.TheConstants.{PIECE_SIZE}

@@ -14,8 +14,8 @@ ghost use Rattle.call_edges.specs.Meant.{IsMeaning, IsMeant};
 ghost use Rattle.call_edges.specs.PlainCalls.{AreSides, IsMetAlone, IsPlain};
 ghost use Rattle.call_edges.specs.Seen.{see_met};
 
-use crate::apart::{added, meaning_of};
 use crate::role::{Meant, Met, Role};
+use crate::take_apart::{added_count, meaning_of};
 use import_rules::{Home, Program, found_means};
 use module_table::GoalArg;
 use prolog_names::{BAR, COMMA, KNOWN_COUNT, Names, known_law};
@@ -50,7 +50,7 @@ fn arity_of(args: &Parts, arg: GoalArg) -> u32
     requires { count (trees_of args.now) + added arg ≤ 4294967295 }
     ensures { result ≡ count (trees_of args.now) + added arg }
 {
-    args.len() as u32 + added(arg)
+    args.len() as u32 + added_count(arg)
 }
 
 /// The number of the name of a goal and its arity, if the name isn't among the known ones. So it is
@@ -94,7 +94,7 @@ pub fn plain_call<'a>(
         name,
         number,
         arity,
-        added: added(role.arg),
+        added: added_count(role.arg),
         negated: role.negated,
         meant: meaning.meant,
     })
@@ -142,7 +142,7 @@ pub fn home_call<'a>(home: &Home<'a>, term: &Term<'a>, role: Role) -> Option<Met
         name: term.names.text(number),
         number,
         arity,
-        added: added(role.arg),
+        added: added_count(role.arg),
         negated: role.negated,
         meant: meaning_found(callee),
     })

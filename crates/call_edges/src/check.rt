@@ -10,12 +10,12 @@ ghost use Rattle.call_edges.specs.KeptCalls.{AreKept};
 ghost use Rattle.call_edges.specs.OpenedPieces.{AreOpened, AreOpenedPieces, IsOpenedPiece, pieces_of, kept_of};
 
 use crate::faults::directive_faults;
+use crate::faults_with_places::faults_with_places;
 use crate::goal_stop::GoalStop;
-use crate::kept_calls::PieceCalls;
-use crate::laid_out::CallLists;
+use crate::graph::call_lists::CallLists;
+use crate::graph::placed_call_lists::PlacedCallLists;
 use crate::piece::{OpenedPiece, Piece, open_piece, piece_count};
-use crate::placed::placed;
-use crate::placed_lists::PlacedCallLists;
+use crate::piece_calls::PieceCalls;
 use import_rules::Program;
 use rayon::prelude::*;
 use std::alloc::{AllocError, Global};
@@ -46,7 +46,7 @@ fn open_each<'a, R: Threads + Sync>(
 }
 
 /// The pieces, if memory ran out for none.
-fn whole<'a>(
+fn take_pieces<'a>(
     alloc: Global,
     each: Vec<Result<OpenedPiece<'a>, AllocError>>,
 ) -> Result<Vec<OpenedPiece<'a>>, AllocError>
@@ -63,7 +63,7 @@ fn whole<'a>(
 }
 
 /// The lists of the pieces, and separately the calls that are recorded.
-fn split<'a>(
+fn split_pieces<'a>(
     alloc: Global,
     opened: Vec<OpenedPiece<'a>>,
 ) -> Result<(Vec<Piece>, Vec<PieceCalls<'a>>), AllocError>
@@ -91,13 +91,13 @@ fn open_all<'a, R: Threads + Sync>(
     ensures kept { IfOk result (λ found. keep ≡ true → AreKept program.now found.1.items) }
 {
     let each = open_each(rt, alloc, program, keep)?;
-    let opened = whole(alloc, each)?;
-    let found = split(alloc, opened)?;
+    let opened = take_pieces(alloc, each)?;
+    let found = split_pieces(alloc, opened)?;
     Ok(found)
 }
 
 /// The spots of goals that aren't callable, of all pieces.
-fn joined(alloc: Global, pieces: &[Piece]) -> Result<Vec<(u32, u32)>, AllocError>
+fn join_faults(alloc: Global, pieces: &[Piece]) -> Result<Vec<(u32, u32)>, AllocError>
     ensures { IfOk result (λ places. (p : ℕ × ℕ) → Contains places.items p ↔ IsAmong HasPlace pieces.now p) }
 {
     let mut places = Vec::new(alloc);
@@ -117,7 +117,7 @@ fn fault_places(
     ensures { IfOk result (λ faults. AreFaultPlaces program.now faults.items) }
 {
     program.is_known();
-    let mut faults = joined(alloc, pieces)?;
+    let mut faults = join_faults(alloc, pieces)?;
     let others = directive_faults(alloc, program)?;
     faults.extend_from_slice(&others)?;
     faults.sort_unstable();
@@ -144,7 +144,7 @@ fn all_callable<'a, R: Threads + Sync>(
     if faults.is_empty() {
         return Ok(found);
     }
-    Err(GoalStop::Faults(placed(alloc, program, &faults)?))
+    Err(GoalStop::Faults(faults_with_places(alloc, program, &faults)?))
 }
 
 /// The call graph of a program in memory, if every goal is callable (ISO/IEC 13211-1, 7.6.2). A

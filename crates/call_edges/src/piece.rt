@@ -4,9 +4,9 @@ ghost use Rattle.std.specs.Prelude.{◌≡◌, ◌∷◌, ◌++◌, ◌+◌, ◌
 ghost use Rattle.call_edges.specs.declared.piece.TheConstants.{PIECE_SIZE};
 ghost use Rattle.call_edges.specs.OpenedPieces.{IsOpenedPiece};
 
+use crate::buffers::{Buffers, open};
 use crate::found::{Found, Opening};
-use crate::kept_calls::PieceCalls;
-use crate::opened::{Buffers, open};
+use crate::piece_calls::PieceCalls;
 use import_rules::Program;
 use std::alloc::{AllocError, Global};
 

@@ -8,7 +8,7 @@ ghost use Rattle.call_edges.specs.Calls.{IsAmong};
 ghost use Rattle.call_edges.specs.PlacedSeen.{call_to, see_call, see_calls};
 ghost use Rattle.call_edges.specs.Seen.{see_met};
 
-use crate::placed_lists::PlacedCallLists;
+use crate::graph::placed_call_lists::PlacedCallLists;
 use crate::role::Met;
 use std::alloc::{AllocError, Global};
 
@@ -93,7 +93,7 @@ pub(crate) fn push_call<'a>(
 }
 
 /// The calls of these predicates, one predicate after another.
-fn gathered<'a>(
+fn gather_calls<'a>(
     alloc: Global,
     lists: &PlacedCallLists<'a>,
     callers: &[u32],
@@ -124,7 +124,7 @@ pub fn calls_of<'a>(
         (see_calls calls.items)) }
 {
     lists.is_known();
-    let mut calls = gathered(alloc, lists, callers)?;
+    let mut calls = gather_calls(alloc, lists, callers)?;
     // Mostly they are in order already, which takes one comparison for each.
     calls.sort_unstable();
     calls.dedup();

@@ -6,7 +6,7 @@ ghost use Rattle.call_edges.specs.Seen.{see_met, see_mets};
 ghost use Rattle.call_edges.specs.Called.{see_called, unresolved};
 ghost use Rattle.call_edges.specs.Unresolved.{AreUnresolved, IsUnresolvedOf};
 
-use crate::met::met_in;
+use crate::goals_met::met_in;
 use crate::role::Met;
 use import_rules::{PredName, Program};
 use prolog_tokens::Text;
@@ -21,7 +21,7 @@ struct Called<'a> {
 }
 
 /// The name of a call that means no predicate.
-fn unresolved<'a>(program: &Program, met: Met<'a>) -> Option<Called<'a>>
+fn unresolved_name<'a>(program: &Program, met: Met<'a>) -> Option<Called<'a>>
     ensures { option_map see_called result ≡ unresolved program.now (see_met met.entry) }
 {
     let Met::Call {
@@ -53,7 +53,7 @@ fn push_unresolved<'a>(
         (map see_called names.old.items) (map see_called names.new.items)) }
 {
     for one in met {
-        let Some(called) = unresolved(program, *one) else {
+        let Some(called) = unresolved_name(program, *one) else {
             continue;
         };
         names.push(called)?;
@@ -62,7 +62,7 @@ fn push_unresolved<'a>(
 }
 
 /// The names, as texts of their own.
-fn owned(alloc: Global, called: &[Called]) -> Result<Vec<PredName>, AllocError>
+fn own_names(alloc: Global, called: &[Called]) -> Result<Vec<PredName>, AllocError>
     ensures { IfOk result (λ names. names.items ≡ map see_called called.now) }
 {
     let mut names = Vec::with_capacity(alloc, called.len())?;
@@ -91,5 +91,5 @@ pub fn unresolved_of(
     push_unresolved(program, &met, &mut called)?;
     called.sort_unstable();
     called.dedup();
-    owned(alloc, &called)
+    own_names(alloc, &called)
 }

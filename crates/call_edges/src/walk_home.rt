@@ -11,7 +11,7 @@ ghost use Rattle.call_edges.specs.Seen.{see_mets};
 
 use crate::by_number::{control_sides, home_call};
 use crate::role::{Met, Role};
-use crate::walking::{push_met, walk};
+use crate::walk::{push_met, walk};
 use import_rules::Home;
 use prolog_terms::Term;
 use std::alloc::{AllocError, Global};

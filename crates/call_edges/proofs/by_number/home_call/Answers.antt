@@ -37,11 +37,11 @@ returns-clause-met c = λ old.
     let undeclared : meta_meant seen owner (name_at c.args.term.now.names.now number) arity ≡ [] =
     subst (λ (ns : List (List ℕ)). meta_meant seen owner (name_at ns number) arity ≡ []) (sym c.requires.names) there in
     let P : ℕ → List ℕ → List ℕ → Type 0 = λ at module_ name.
-    AddsMet (rows_of seen) (place owner role tree) old (old ++ call at module_ name arity c.added.result role.negated ∷ []) in
+    AddsMet (rows_of seen) (place owner role tree) old (old ++ call at module_ name arity c.added_count.result role.negated ∷ []) in
     let own = name_at c.args.term.now.names.now number in
     let counted : P (start_of tree) owner own =
     subst (λ (more : ℕ). AddsMet (rows_of seen) (place owner role tree) old (old ++ call (start_of tree) owner own arity more role.negated ∷ []))
-    (sym c.added.ensures) (plain seen owner undeclared old) in
+    (sym c.added_count.ensures) (plain seen owner undeclared old) in
     let named : P (start_of tree) owner c.text.result.now = subst (P (start_of tree) owner) (sym c.text.ensures) counted in
     let owned : P (start_of tree) c.as_str.result.now c.text.result.now = subst (λ (m : List ℕ). P (start_of tree) m c.text.result.now) (sym c.as_str.ensures) named in
     subst (λ (at : ℕ). P at c.as_str.result.now c.text.result.now) (sym c.start_of.ensures) owned

@@ -19,5 +19,5 @@ returns-clause-met c = λ old.
     let undeclared : meta_meant seen owner name arity ≡ [] =
     sym c.meaning_of-meaning.ensures.declared ∙ c.is_undeclared.ensures c.if-not-is_undeclared.false in
     let P : ℕ → ℕ → Type 0 = λ at more. AddsMet (rows_of seen) (place owner role tree) old (old ++ call at owner name arity more role.negated ∷ []) in
-    subst (λ (at : ℕ). P at c.added.result) (sym c.start_of.ensures)
-    (subst (P (start_of tree)) (sym c.added.ensures) (plain seen owner undeclared old))
+    subst (λ (at : ℕ). P at c.added_count.result) (sym c.start_of.ensures)
+    (subst (P (start_of tree)) (sym c.added_count.ensures) (plain seen owner undeclared old))

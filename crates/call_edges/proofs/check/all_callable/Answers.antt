@@ -25,6 +25,6 @@ returns-clause-refused g c =
     let none : faults.len ≡ 0 = omega (arith, ap length empty, ap length c.deref-2.ensures.value, faults.ok.0) in
     let both : true ≡ false = sym (eq-eqb faults.len 0 none) ∙ (sym c.is_empty.ensures ∙ c.if-is_empty.false) in
     cc in (
-      goal_faults seen c.is_known.ensures places c.in_ok-placed.field-0.items are c.in_ok-placed.ensures,
-      some_faults _ places c.in_ok-placed.field-0.items c.in_ok-placed.ensures some,
+      goal_faults seen c.is_known.ensures places c.in_ok-faults_with_places.field-0.items are c.in_ok-faults_with_places.ensures,
+      some_faults _ places c.in_ok-faults_with_places.field-0.items c.in_ok-faults_with_places.ensures some,
     )

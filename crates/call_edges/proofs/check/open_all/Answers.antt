@@ -1,5 +1,5 @@
 use Rattle.std.proofs.Common.{List, sym, subst}
-use Rattle.call_edges.specs.declared.kept_calls.PieceCalls.{PieceCalls}
+use Rattle.call_edges.specs.declared.piece_calls.PieceCalls.{PieceCalls}
 use Rattle.call_edges.specs.declared.piece.Piece.{Piece}
 use Rattle.call_edges.specs.CallLists.{ArePieces}
 use Rattle.call_edges.specs.KeptCalls.{AreKept}

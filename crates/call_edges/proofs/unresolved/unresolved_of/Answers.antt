@@ -13,6 +13,6 @@ returns c =
     let told =
     node_names seen node (see_mets c.in_ok-met.met.items) (map see_called c.new-called.result.items) (map see_called called) c.in_ok-met.ensures.met
     (ap (map see_called) c.new-called.ensures.items) (rw c.deref.ensures.value at c.in_ok-push_unresolved.ensures) in
-    IfOk-then c.owned.result _ _ c.owned.ensures (λ names is.
+    IfOk-then c.own_names.result _ _ c.own_names.ensures (λ names is.
     all_names seen node called c.sort_unstable.new.self.items c.dedup.new.self.items names.items told
     c.sort_unstable.ensures.permutation c.sort_unstable.ensures.sorted c.dedup.ensures.filtered (is ∙ ap (map see_called) c.deref-2.ensures.value))
