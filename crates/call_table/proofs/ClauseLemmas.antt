@@ -28,7 +28,7 @@ use Rattle.file_library.specs.Spots.{StandsInText}
 use Rattle.call_edges.proofs.AmongLemmas.{flat_has, map_has}
 use Rattle.call_edges.proofs.BodyLemmas.{places_there}
 use Rattle.call_edges.proofs.CallOffsets.{zip_text}
-use Rattle.call_table.specs.declared.clauses.ClauseAt.{ClauseAt}
+use Rattle.call_table.specs.declared.clause_at.ClauseAt.{ClauseAt}
 use Rattle.call_table.specs.Clauses.{clause_at, part_clauses, file_clauses, clauses_there, clauses_in, clause_cmp, AreClausesOf}
 
 pub clauses_at : (files : List Facts) (node : ℕ) (at : ℕ × ℕ) (file : Facts) (predicate : Predicate) → slice_get files at.0 ≡ Some file → slice_get file.defined at.1 ≡ Some predicate

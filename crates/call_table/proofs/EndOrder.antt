@@ -17,7 +17,7 @@ use Rattle.file_library.specs.Spots.{IsUpto, AreSpots, StandsInText}
 use Rattle.import_rules.specs.ClauseEnds.{AllStandApart, IsClauseIn, StandApart}
 use Rattle.import_rules.specs.Program.{Seen}
 use Rattle.import_rules.proofs.Lists.{all_pairs_map}
-use Rattle.call_table.specs.declared.clauses.ClauseAt.{ClauseAt}
+use Rattle.call_table.specs.declared.clause_at.ClauseAt.{ClauseAt}
 use Rattle.call_table.specs.Clauses.{AreClausesOf}
 use Rattle.call_table.specs.Table.{clause_end}
 use Rattle.call_table.proofs.ClauseLemmas.{IsFound, clause_found}

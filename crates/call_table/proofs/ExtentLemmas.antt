@@ -4,7 +4,7 @@ use Rattle.std.specs.List.{AllZip, zip}
 use Rattle.prolog_tokens.specs.declared.token.Place.{Place}
 use Rattle.file_library.specs.Loaded.{NamedText}
 use Rattle.file_library.specs.Spots.{IsSpotPlace}
-use Rattle.call_table.specs.declared.clauses.ClauseAt.{ClauseAt}
+use Rattle.call_table.specs.declared.clause_at.ClauseAt.{ClauseAt}
 use Rattle.call_table.specs.Table.{IsExtentOf, clause_end, clause_spot, extent}
 
 pub extents_are : (texts : List NamedText) (clauses : List ClauseAt) (starts ends : List Place) → AllZip (IsSpotPlace texts) (map clause_spot clauses) starts

@@ -7,7 +7,7 @@ use Rattle.import_rules.specs.Program.{Seen}
 use Rattle.call_edges.specs.Calls.{IsAmong}
 use Rattle.call_edges.specs.CallPlaces.{IsCallOf}
 use Rattle.call_edges.specs.declared.placed_calls.PlacedCall.{PlacedCall}
-use Rattle.call_table.specs.declared.clauses.ClauseAt.{ClauseAt}
+use Rattle.call_table.specs.declared.clause_at.ClauseAt.{ClauseAt}
 use Rattle.call_table.specs.declared.extents.Extent.{Extent}
 use Rattle.call_table.specs.Clauses.{clauses_in}
 use Rattle.call_table.specs.Table.{ArePlacedCalls, ArePlacedClauses}

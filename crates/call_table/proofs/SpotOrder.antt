@@ -9,7 +9,7 @@ use Rattle.import_rules.specs.Program.{Seen}
 use Rattle.import_rules.proofs.Lists.{all_pairs_map}
 use Rattle.file_library.specs.Spots.{StandsInText}
 use Rattle.call_edges.specs.CallPlaces.{CallAt, AreCallsOf, call_cmp, callee_cmp}
-use Rattle.call_table.specs.declared.clauses.ClauseAt.{ClauseAt}
+use Rattle.call_table.specs.declared.clause_at.ClauseAt.{ClauseAt}
 use Rattle.call_table.specs.Clauses.{AreClausesOf}
 use Rattle.file_library.specs.Spots.{IsUpto, AreSpots}
 use Rattle.call_table.specs.Table.{clause_spot, call_spot}

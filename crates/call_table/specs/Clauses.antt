@@ -11,7 +11,7 @@ use Rattle.module_table.specs.Facts.{Facts}
 use Rattle.import_rules.specs.ClauseEnds.{end_of}
 use Rattle.import_rules.specs.Program.{Seen, places_in}
 use Rattle.call_edges.specs.Calls.{IsAmong}
-use Rattle.call_table.specs.declared.clauses.ClauseAt.{ClauseAt}
+use Rattle.call_table.specs.declared.clause_at.ClauseAt.{ClauseAt}
 
 -- a clause of the predicate of that number, in that file
 abbrev pub clause_at : ℕ → ℕ → Tree → ClauseAt

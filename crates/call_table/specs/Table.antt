@@ -6,7 +6,7 @@ use Rattle.import_rules.specs.Program.{Seen}
 use Rattle.call_edges.specs.CallPlaces.{CallAt, AreCallsOf}
 use Rattle.call_edges.specs.PlacedSeen.{see_calls}
 use Rattle.call_edges.specs.declared.placed_calls.PlacedCall.{PlacedCall}
-use Rattle.call_table.specs.declared.clauses.ClauseAt.{ClauseAt}
+use Rattle.call_table.specs.declared.clause_at.ClauseAt.{ClauseAt}
 use Rattle.call_table.specs.declared.extents.Extent.{Extent}
 use Rattle.call_table.specs.declared.table.CallTable.{CallTable}
 use Rattle.call_table.specs.Clauses.{AreClausesOf}

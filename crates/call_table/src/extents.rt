@@ -5,7 +5,7 @@ ghost use Rattle.std.specs.List.{AllZip, zip};
 ghost use Rattle.file_library.specs.Spots.{AreSpots, IsSpotPlace};
 ghost use Rattle.call_table.specs.Table.{IsExtentOf, clause_end, clause_spot, extent};
 
-use crate::clauses::ClauseAt;
+use crate::clause_at::ClauseAt;
 use import_rules::Program;
 use prolog_tokens::Place;
 use std::alloc::{AllocError, Global};

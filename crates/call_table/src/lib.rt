@@ -12,7 +12,7 @@
 //! The layer above decides how the table is written.
 #![tactic(auto)]
 
-mod clauses;
+mod clause_at;
 mod directives;
 mod extents;
 mod marks;
@@ -20,7 +20,7 @@ mod memberships;
 mod reached;
 mod table;
 
-pub use clauses::{ClauseAt, clauses_of};
+pub use clause_at::{ClauseAt, clauses_of};
 pub use directives::placed_directives;
 pub use extents::Extent;
 pub use marks::{Marks, NodeMarks, make_marks};

@@ -4,7 +4,7 @@ ghost use Rattle.std.specs.Prelude.{◌≡◌, ◌<◌, All, IfOk, length, map};
 ghost use Rattle.call_table.specs.Table.{ArePlacedCalls, ArePlacedClauses, IsTable, kept_spot};
 ghost use Rattle.graph_law.specs.Graph.{lists_of};
 
-use crate::clauses::{ClauseAt, clauses_of};
+use crate::clause_at::{ClauseAt, clauses_of};
 use crate::extents::{Extent, extents_of};
 use crate::memberships::groups_of;
 use call_edges::{PlacedCall, PlacedCallLists, calls_of, in_file_order};

@@ -2,7 +2,7 @@
 use Rattle.std.proofs.Common.{◌≡◌, ℕ, true, false, List, [], ◌∷◌, codes, flat_map, refl}
 use Rattle.std.specs.List.{list_all}
 use Rattle.call_told.specs.declared.condensed.Edge.{Edge}
-use Rattle.call_told.specs.declared.words.Form.TheVariants.{Dot, Condensed}
+use Rattle.call_told.specs.declared.wanted.Form.TheVariants.{Dot, Condensed}
 use Rattle.call_told.specs.Condensed.{node_of}
 use Rattle.call_told.specs.EdgeLists.{edges_from}
 use Rattle.call_told.specs.Told.{told_nodes}

@@ -2,8 +2,8 @@
 use Rattle.std.proofs.Common.{◌≡◌, ℕ, zero, suc, ◌+◌, List, ap, refl, sym, ◌∙◌}
 use Rattle.group_words.proofs.OneSettings.{one_settings}
 use Rattle.call_told.specs.Wanted.{Asked, AreAsked, FormWords, form_words, other_words}
-use Rattle.call_told.specs.declared.words.Form.{Form}
-use Rattle.call_told.specs.declared.words.Form.TheVariants.{Lines, Undefined, Dot, Condensed}
+use Rattle.call_told.specs.declared.wanted.Form.{Form}
+use Rattle.call_told.specs.declared.wanted.Form.TheVariants.{Lines, Undefined, Dot, Condensed}
 
 -- the form that is named so often by each word
 form_by : ℕ → Form

@@ -4,7 +4,7 @@ use Rattle.prolog_tokens.specs.declared.token.Place.{Place}
 use Rattle.import_rules.specs.Program.{Seen}
 use Rattle.call_edges.specs.PlacedSeen.{see_calls}
 use Rattle.call_edges.specs.declared.placed_calls.PlacedCall.{PlacedCall}
-use Rattle.call_table.specs.declared.clauses.ClauseAt.{ClauseAt}
+use Rattle.call_table.specs.declared.clause_at.ClauseAt.{ClauseAt}
 use Rattle.call_table.specs.declared.extents.Extent.{Extent}
 use Rattle.call_writer.specs.Lines.{call_line_if, clause_line}
 use Rattle.call_told.specs.declared.stretches.Stretch.{Stretch}

@@ -23,10 +23,10 @@ use Rattle.call_writer.specs.Lines.{call_line_if, clause_line, directive_line_if
 use Rattle.call_told.specs.Condensed.{TellsCondensed}
 use Rattle.call_told.specs.Wanted.{Asked}
 use Rattle.call_told.specs.declared.told.Told.{Told}
-use Rattle.call_told.specs.declared.node_texts.NodeLines.{NodeLines}
-use Rattle.call_told.specs.declared.node_texts.NodeLines.TheVariants.{Predicates, Groups}
-use Rattle.call_told.specs.declared.words.Form.{Form}
-use Rattle.call_told.specs.declared.words.Form.TheVariants.{Lines, Undefined, Dot, Condensed}
+use Rattle.call_told.specs.declared.node_lines.NodeLines.{NodeLines}
+use Rattle.call_told.specs.declared.node_lines.NodeLines.TheVariants.{Predicates, Groups}
+use Rattle.call_told.specs.declared.wanted.Form.{Form}
+use Rattle.call_told.specs.declared.wanted.Form.TheVariants.{Lines, Undefined, Dot, Condensed}
 
 -- predicates below the count, groups of such predicates with a level each, which group each predicate is in, and what is marked at each
 pub record AreTold (count : ℕ) (nodes : List ℕ) (groups : List (List ℕ)) (levels : List Level) (places : List ℕ) (marks : ProgramMarks) : Type 0 where

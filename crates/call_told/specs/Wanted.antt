@@ -3,9 +3,9 @@ use Rattle.std.specs.Prelude.{◌≡◌, ℕ, ◌||◌, Bool, true, not, nat_eq,
 use Rattle.std.specs.List.{list_all, position_or_len, starts_with}
 use Rattle.std.specs.Str.{bytes_eq}
 use Rattle.group_words.specs.Settings.{Settings, AreLawful, see_options}
-use Rattle.call_told.specs.declared.words.Form.{Form}
-use Rattle.call_told.specs.declared.words.Form.TheVariants.{Lines, Undefined, Dot, Condensed}
-use Rattle.call_told.specs.declared.words.Wanted.{Wanted}
+use Rattle.call_told.specs.declared.wanted.Form.{Form}
+use Rattle.call_told.specs.declared.wanted.Form.TheVariants.{Lines, Undefined, Dot, Condensed}
+use Rattle.call_told.specs.declared.wanted.Wanted.{Wanted}
 
 -- the form of what is written, and settings of `groups`: of these the roots, whether predicates that are not reached are told, and the files
 pub record Asked : Type 0 where

@@ -15,11 +15,11 @@
 
 mod condensed;
 mod directives;
-mod node_texts;
+mod node_lines;
 mod stretches;
 mod text;
 mod told;
-mod words;
+mod wanted;
 
 pub use text::told_texts;
-pub use words::{Form, Wanted, read_wanted};
+pub use wanted::{Form, Wanted, read_wanted};

@@ -11,7 +11,7 @@ ghost use Rattle.call_told.specs.Wanted.{see_wanted};
 ghost use Rattle.call_told.specs.declared.told.Told.{Told as ToldHere};
 ghost use Rattle.graph_law.specs.Graph.{Calls as ListCalls, lists_of};
 
-use crate::words::Wanted;
+use crate::wanted::Wanted;
 use call_edges::CallLists;
 use call_table::{Marks, Reached, groups_from, groups_of, make_marks};
 use group_release::Level;

@@ -11,7 +11,7 @@ use Rattle.import_rules.specs.declared.names.PredName.{PredName}
 use Rattle.import_rules.specs.Program.{Seen, meta_in}
 use Rattle.module_table.specs.declared.goal_arg.GoalArg.{GoalArg}
 use Rattle.call_edges.specs.CallPlaces.{CallAt}
-use Rattle.call_table.specs.declared.clauses.ClauseAt.{ClauseAt}
+use Rattle.call_table.specs.declared.clause_at.ClauseAt.{ClauseAt}
 use Rattle.call_table.specs.declared.extents.Extent.{Extent}
 use Rattle.call_table.specs.declared.marks.NodeMarks.{NodeMarks}
 use Rattle.call_writer.specs.Json.{json_string, truth}

@@ -187,7 +187,7 @@ static RUNS: [Run; 33] = [
 
 /// The bytes that the sink has taken as text, or no text.
 fn shown(sink: &MemorySink) -> &str {
-    match str::from_utf8(sink.taken()) {
+    match str::from_utf8(sink.bytes()) {
         Ok(text) => text,
         Err(_) => "no text",
     }

@@ -167,7 +167,7 @@ impl Reader {
 
     /// What the arguments set if there are no more of them and none is missing, or None if `--jobs`
     /// has no valid number.
-    fn made(self) -> Result<Option<Settings>, AllocError>
+    fn into_settings(self) -> Result<Option<Settings>, AllocError>
         requires { IsOnce self.flags.items }
         ensures { IfOk result (λ found. MatchOption found
             ((settings : SettingsOf) → AreSettings (given_of self) settings → ⊥)
@@ -207,8 +207,8 @@ impl Reader {
     {
         match self.next {
             Next::Value(_) => Ok(None),
-            Next::Any => self.made(),
-            Next::Operand => self.made(),
+            Next::Any => self.into_settings(),
+            Next::Operand => self.into_settings(),
         }
     }
 }

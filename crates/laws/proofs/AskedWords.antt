@@ -5,8 +5,8 @@ use Rattle.std.specs.Str.{IsUtf8}
 use Rattle.std.proofs.lemmas.Bool.Decides.{Decides-eqb}
 use Rattle.std.proofs.lemmas.List.Elements.{All-append, All-drop, All-filter, All-take}
 use Rattle.group_words.specs.Settings.{AreLawful}
-use Rattle.call_told.specs.declared.words.Form.{Form}
-use Rattle.call_told.specs.declared.words.Form.TheVariants.{Lines, Undefined, Dot, Condensed}
+use Rattle.call_told.specs.declared.wanted.Form.{Form}
+use Rattle.call_told.specs.declared.wanted.Form.TheVariants.{Lines, Undefined, Dot, Condensed}
 use Rattle.call_told.specs.Wanted.{AreAsked, FormWords, count_forms, form_words, front_count, front_words, is_known, is_other, other_words}
 use Rattle.laws.specs.AnswerLayers.{WordsAreDecided}
 use Rattle.laws.proofs.Known.{IsFound, IsKnown, known_bool}

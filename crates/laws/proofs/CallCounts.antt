@@ -17,7 +17,7 @@ use Rattle.call_edges.specs.Bodies.{Body, bodies_at}
 use Rattle.call_edges.specs.CallPlaces.{CallAt}
 use Rattle.call_edges.specs.KeptCalls.{body_calls, calls_in}
 use Rattle.call_edges.proofs.BodyLemmas.{IsThere, bodies_there, places_there}
-use Rattle.call_table.specs.declared.clauses.ClauseAt.{ClauseAt}
+use Rattle.call_table.specs.declared.clause_at.ClauseAt.{ClauseAt}
 use Rattle.call_table.specs.Clauses.{clause_at, clauses_in, clauses_there}
 use Rattle.call_table.proofs.ClauseLemmas.{clauses_at}
 use Rattle.laws.proofs.ClauseTotals.{light_files}

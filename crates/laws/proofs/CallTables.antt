@@ -13,7 +13,7 @@ use Rattle.import_rules.proofs.Loaded.{were_apart}
 use Rattle.call_edges.specs.CallPlaces.{AreCallsOf, CallAt}
 use Rattle.call_edges.specs.PlacedSeen.{see_calls}
 use Rattle.call_edges.proofs.CallOffsets.{calls_stand}
-use Rattle.call_table.specs.declared.clauses.ClauseAt.{ClauseAt}
+use Rattle.call_table.specs.declared.clause_at.ClauseAt.{ClauseAt}
 use Rattle.call_table.specs.declared.extents.Extent.{Extent}
 use Rattle.call_table.specs.declared.table.CallTable.{CallTable}
 use Rattle.call_table.specs.Memberships.{AreGroupsOf}

@@ -13,7 +13,7 @@ use Rattle.import_rules.specs.Program.{Seen}
 use Rattle.call_edges.specs.CallPlaces.{AreCallsOf, CallAt, call_cmp}
 use Rattle.call_edges.specs.PlacedSeen.{see_calls}
 use Rattle.call_edges.proofs.PlacedCallLemmas.{call_cmp_total}
-use Rattle.call_table.specs.declared.clauses.ClauseAt.{ClauseAt}
+use Rattle.call_table.specs.declared.clause_at.ClauseAt.{ClauseAt}
 use Rattle.call_table.specs.declared.extents.Extent.{Extent}
 use Rattle.call_table.specs.declared.table.CallTable.{CallTable}
 use Rattle.call_table.specs.Clauses.{AreClausesOf, clause_cmp}

@@ -12,9 +12,9 @@ use Rattle.call_table.specs.Marks.{ProgramMarks, marks_at}
 use Rattle.call_table.specs.Memberships.{AreGroupsOf}
 use Rattle.call_table.specs.Table.{IsTable}
 use Rattle.call_table.specs.declared.table.CallTable.{CallTable}
-use Rattle.call_told.specs.declared.node_texts.NodeLines.TheVariants.{Predicates, Groups}
-use Rattle.call_told.specs.declared.words.Form.{Form}
-use Rattle.call_told.specs.declared.words.Form.TheVariants.{Lines, Undefined, Dot, Condensed}
+use Rattle.call_told.specs.declared.node_lines.NodeLines.TheVariants.{Predicates, Groups}
+use Rattle.call_told.specs.declared.wanted.Form.{Form}
+use Rattle.call_told.specs.declared.wanted.Form.TheVariants.{Lines, Undefined, Dot, Condensed}
 use Rattle.call_told.specs.Condensed.{TellsCondensed, edge_lines, node_lines_of}
 use Rattle.call_told.specs.declared.condensed.Edge.{Edge}
 use Rattle.call_told.specs.Told.{TellsForm, TellsFrom, call_lines, clause_lines, node_line, told_lines}

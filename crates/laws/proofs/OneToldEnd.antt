@@ -1,6 +1,6 @@
 -- One text is told of a program by `calls`, where no graph of all predicates is asked for.
 use Rattle.std.proofs.Common.{◌≡◌, ◌≢◌, subst}
-use Rattle.call_told.specs.declared.words.Form.TheVariants.{Dot}
+use Rattle.call_told.specs.declared.wanted.Form.TheVariants.{Dot}
 use Rattle.call_told.specs.Told.{TellsFrom}
 use Rattle.call_told.specs.Wanted.{Asked}
 use Rattle.calls_tool.specs.Calls.{calls_tool}

@@ -20,7 +20,7 @@ use Rattle.call_edges.specs.KeptCalls.{body_calls, calls_in}
 use Rattle.call_edges.proofs.AmongLemmas.{flat_has}
 use Rattle.call_edges.proofs.KeptCallLemmas.{body_calls_are}
 use Rattle.call_edges.proofs.PlacedCallLemmas.{call_cmp_total}
-use Rattle.call_table.specs.declared.clauses.ClauseAt.{ClauseAt}
+use Rattle.call_table.specs.declared.clause_at.ClauseAt.{ClauseAt}
 use Rattle.call_table.specs.Clauses.{AreClausesOf, clause_cmp, clauses_in}
 use Rattle.call_table.proofs.ClauseLemmas.{clause_cmp_total}
 use Rattle.laws.proofs.KeptCalls.{calls_are}

@@ -18,8 +18,8 @@ use Rattle.call_table.specs.Memberships.{AreGroupsOf}
 use Rattle.call_table.specs.Table.{IsTable}
 use Rattle.call_table.specs.declared.table.CallTable.{CallTable}
 use Rattle.call_table.proofs.ReachedLemmas.{roots_listed}
-use Rattle.call_told.specs.declared.words.Form.{Form}
-use Rattle.call_told.specs.declared.words.Form.TheVariants.{Lines, Undefined, Dot, Condensed}
+use Rattle.call_told.specs.declared.wanted.Form.{Form}
+use Rattle.call_told.specs.declared.wanted.Form.TheVariants.{Lines, Undefined, Dot, Condensed}
 use Rattle.call_told.specs.Condensed.{condensed_graph}
 use Rattle.call_told.specs.Told.{TellsForm, TellsFrom, all_lines, call_lines, directive_lines, dot_graph, told_nodes}
 use Rattle.call_told.specs.Wanted.{Asked}

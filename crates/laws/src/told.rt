@@ -8,7 +8,7 @@ ghost use Rattle.import_rules.specs.Program.{Seen, IsProgram};
 ghost use Rattle.call_table.specs.Memberships.{AreGroupsOf};
 ghost use Rattle.call_table.specs.Table.{IsTable};
 ghost use Rattle.call_table.specs.declared.table.CallTable.{CallTable};
-ghost use Rattle.call_told.specs.declared.words.Form.TheVariants.{Dot};
+ghost use Rattle.call_told.specs.declared.wanted.Form.TheVariants.{Dot};
 ghost use Rattle.call_told.specs.Told.{TellsFrom};
 ghost use Rattle.call_told.specs.Wanted.{Asked, AreAsked, IsNothingAsked};
 ghost use Rattle.calls_tool.specs.Calls.{calls_tool};

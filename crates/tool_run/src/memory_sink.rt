@@ -53,7 +53,7 @@ impl MemorySink {
     }
 
     /// The bytes that the sink has taken.
-    pub fn taken(&self) -> &[u8]
+    pub fn bytes(&self) -> &[u8]
         ensures { result.now ≡ self.now.bytes.items }
     {
         &self.bytes

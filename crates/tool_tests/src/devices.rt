@@ -178,7 +178,7 @@ fn expect_end<R: Threads + Wait + Sync + Abort>(
         &mut err,
         &OpenGate,
     );
-    assert_eq!(rt; (ended, out.taken(), err.taken()), (status, on_out, on_err));
+    assert_eq!(rt; (ended, out.bytes(), err.bytes()), (status, on_out, on_err));
     Ok(())
 }
 

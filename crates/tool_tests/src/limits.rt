@@ -30,7 +30,7 @@ fn expect_start<R: Threads + Wait + Sync + Abort>(
     assert!(rt; shown(&out).starts_with(on_out));
     assert!(rt; shown(&err).starts_with(on_err));
     assert_eq!(rt;
-        (out.taken().len() == 0, err.taken().len() == 0),
+        (out.bytes().len() == 0, err.bytes().len() == 0),
         (on_out == "", on_err == "")
     );
     Ok(())

@@ -55,7 +55,7 @@ pub fn push_names(out: &mut String, names: &[Text]) -> Result<(), AllocError> {
 
 /// The bytes that the sink has taken as text, or no text.
 pub fn shown(sink: &MemorySink) -> &str {
-    match str::from_utf8(sink.taken()) {
+    match str::from_utf8(sink.bytes()) {
         Ok(text) => text,
         Err(_) => "no text",
     }
