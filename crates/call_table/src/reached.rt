@@ -4,7 +4,7 @@ ghost use Rattle.std.specs.Prelude.{◌≡◌, ◌<◌, All, IfOk, length};
 ghost use Rattle.call_edges.specs.Successors.{successor_lists};
 ghost use Rattle.call_table.specs.Reached.{AreNodes};
 ghost use Rattle.graph_law.specs.Graph.{Calls as ListCalls, lists_of};
-ghost use Rattle.loop_report.specs.Reportable.{AreLeveled};
+ghost use Rattle.report_lines.specs.Reportable.{AreLeveled};
 
 use call_edges::CallLists;
 use group_release::{Level, levels};

@@ -15,7 +15,7 @@ use Rattle.call_table.specs.Directives.{ArePlacedDirectives}
 use Rattle.call_table.specs.Marks.{AreEach, AreMarked, ProgramMarks, marks_at, see_marks}
 use Rattle.call_table.specs.Memberships.{AreGroupsOf}
 use Rattle.call_table.specs.Reached.{AreNodes}
-use Rattle.loop_report.specs.Reportable.{AreLeveled}
+use Rattle.report_lines.specs.Reportable.{AreLeveled}
 use Rattle.call_table.specs.Table.{IsTable}
 use Rattle.call_table.specs.declared.table.CallTable.{CallTable}
 use Rattle.call_writer.specs.Dot.{edge_line, group_nodes, node_line_of}

@@ -5,7 +5,7 @@ ghost use Rattle.std.specs.Prelude.{◌≡◌, ◌<◌, ◌==◌, ◌||◌, All,
 ghost use Rattle.call_edges.specs.Successors.{successor_lists};
 ghost use Rattle.call_table.specs.Marks.{AreMarked, see_marks};
 ghost use Rattle.call_table.specs.Reached.{AreNodes};
-ghost use Rattle.loop_report.specs.Reportable.{AreLeveled};
+ghost use Rattle.report_lines.specs.Reportable.{AreLeveled};
 ghost use Rattle.call_told.specs.Told.{IsTold, MarkedIs, ToldIs, told_nodes};
 ghost use Rattle.call_told.specs.Wanted.{see_wanted};
 ghost use Rattle.call_told.specs.declared.told.Told.{Told as ToldHere};

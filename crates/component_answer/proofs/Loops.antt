@@ -13,11 +13,11 @@ use Rattle.loop_paths.specs.Circuits.{AreCircuits, IsCircuit}
 use Rattle.loop_paths.specs.Paths.{IsPath}
 use Rattle.loop_paths.proofs.OneLeast.{one_circuit}
 use Rattle.component_report.specs.Cycles.{IsCycleWithin, cycle_line}
-use Rattle.component_report.specs.Report.{IsLineOrder}
-use Rattle.component_report.specs.Reportable.{AreLeveled}
+use Rattle.report_lines.specs.LineOrder.{IsLineOrder}
+use Rattle.report_lines.specs.Reportable.{AreLeveled}
 use Rattle.component_report.specs.declared.form.Form.{Form}
-use Rattle.component_report.proofs.LineOrder.{places_within}
-use Rattle.component_report.proofs.OneLine.{line_at, lines, same_lines}
+use Rattle.report_lines.proofs.LineOrder.{places_within}
+use Rattle.report_lines.proofs.OneLine.{line_at, lines, same_lines}
 use Rattle.component_answer.specs.Answers.{AreLoops, IsPart}
 use Rattle.component_answer.proofs.Nodes.{members_are_nodes}
 

@@ -8,7 +8,7 @@ use Rattle.graph_law.specs.Graph.{Calls, IsClosed}
 use Rattle.graph_law.specs.Reach.{IsReached}
 use Rattle.graph_law.specs.Classes.{HasMember}
 use Rattle.group_release.specs.declared.level.Level.{Level}
-use Rattle.component_report.specs.Reportable.{AreLeveled, AreReportable}
+use Rattle.report_lines.specs.Reportable.{AreLeveled, AreReportable}
 use Rattle.graph_law.proofs.ReachLaws.{along_walk}
 
 pub range_more : (n : ℕ) → range_with_len 0 (n + 1) ≡ range_with_len 0 n ++ n ∷ []

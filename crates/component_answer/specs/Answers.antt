@@ -7,7 +7,7 @@ use Rattle.edge_text.specs.EdgeGraph.{AreNames, IsEdgeGraph, Said}
 use Rattle.loop_paths.specs.Circuits.{AreCircuits}
 use Rattle.component_report.specs.Cycles.{AreCycleLines}
 use Rattle.component_report.specs.Report.{IsReport, order_report}
-use Rattle.component_report.specs.Reportable.{AreLeveled}
+use Rattle.report_lines.specs.Reportable.{AreLeveled}
 use Rattle.component_report.specs.declared.form.Form.{Form}
 use Rattle.component_answer.specs.declared.answer.Answer.{Answer}
 use Rattle.component_answer.specs.declared.answer.Wanted.{Wanted}

@@ -3,7 +3,7 @@ use Rattle.std.specs.Prelude.{ℕ, Result, IfOk, Vec}
 use Rattle.std.specs.declared.alloc.AllocError.{AllocError}
 use Rattle.std.specs.declared.alloc.Global.{Global}
 use Rattle.graph_law.specs.Graph.{Calls, lists_of}
-use Rattle.component_report.specs.Reportable.{AreGroups}
+use Rattle.report_lines.specs.Reportable.{AreGroups}
 use Rattle.component_answer.specs.declared.reach.Reach.{Reach}
 
 -- what a search may return, of a graph and starts in it, are the classes of mutual reach of what the starts reach, each after those that it calls

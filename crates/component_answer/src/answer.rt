@@ -6,7 +6,7 @@ ghost use Rattle.edge_text.specs.declared.limits.TheConstants.{MOST_BYTES};
 ghost use Rattle.edge_text.specs.EdgeGraph.{Said};
 ghost use Rattle.edge_text.specs.Readings.{IsReading};
 ghost use Rattle.graph_law.specs.Graph.{Calls, lists_of};
-ghost use Rattle.component_report.specs.Reportable.{AreLeveled, AreReportable};
+ghost use Rattle.report_lines.specs.Reportable.{AreLeveled, AreReportable};
 ghost use Rattle.component_answer.specs.Answers.{AreLoops, IsAnswer, IsPart, IsReachReport, IsReportBy, IsSaidAnswer};
 ghost use Rattle.component_answer.specs.Searches.{FindsGroups};
 

@@ -6,9 +6,9 @@ use Rattle.graph_law.specs.Classes.{group_at, least_member}
 use Rattle.graph_law.specs.LegalOrder.{IsLegalOrder}
 use Rattle.graph_law.proofs.ClassLaws.{least_is_member}
 use Rattle.group_release.specs.declared.level.Level.{Level}
-use Rattle.component_report.specs.Report.{IsLineOrder, least_at}
-use Rattle.component_report.specs.Reportable.{LeastDiffer}
-use Rattle.component_report.proofs.LineOrder.{line_at, line_cmp, line_cmp_total, ordered, places}
+use Rattle.report_lines.specs.LineOrder.{IsLineOrder, least_at}
+use Rattle.report_lines.specs.Reportable.{LeastDiffer}
+use Rattle.report_lines.proofs.LineOrder.{line_at, line_cmp, line_cmp_total, ordered, places}
 use Rattle.laws.proofs.Orders.{HasSorted, has_sorted}
 
 -- two groups with the same least member are one

@@ -9,8 +9,9 @@ use Rattle.group_release.specs.declared.level.Level.{Level}
 use Rattle.group_release.specs.Level.{AreLevels}
 use Rattle.loop_paths.specs.Circuits.{AreCircuits}
 use Rattle.component_report.specs.Cycles.{cycle_line_at}
-use Rattle.component_report.specs.Report.{IsLineOrder, order_report, report_in}
-use Rattle.component_report.specs.Reportable.{AreLeveled}
+use Rattle.report_lines.specs.LineOrder.{IsLineOrder}
+use Rattle.component_report.specs.Report.{order_report, report_in}
+use Rattle.report_lines.specs.Reportable.{AreLeveled}
 use Rattle.component_report.specs.declared.form.Form.{Form}
 use Rattle.component_answer.specs.declared.answer.Wanted.{Wanted}
 use Rattle.component_answer.specs.Answers.{AreLoops, IsPart, IsReachReport, IsReportBy}

@@ -9,7 +9,8 @@ use Rattle.group_release.specs.declared.level.Level.{Level}
 use Rattle.component_report.specs.Cycles.{loop_line}
 use Rattle.component_report.specs.Json.{with_commas}
 use Rattle.component_report.specs.JsonLines.{json_group, json_head, json_member, truth_of}
-use Rattle.component_report.specs.Report.{group_line, head_line, height_count, kind_of, member_text}
+use Rattle.report_lines.specs.Head.{height_count, kind_of}
+use Rattle.component_report.specs.Report.{group_line, head_line, member_text}
 use Rattle.component_report.specs.declared.form.Form.{Form}
 use Rattle.component_report.specs.declared.form.Form.TheVariants.{Lines, Json}
 use Rattle.component_laws.proofs.ShortTexts.{AreShort, by_test, commas_short, decimal_short, flat_short, joined, json_name_short}

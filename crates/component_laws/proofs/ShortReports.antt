@@ -18,7 +18,7 @@ use Rattle.loop_paths.specs.Circuits.{AreCircuits, IsCircuit}
 use Rattle.component_report.specs.Cycles.{cycle_line, cycle_line_at}
 use Rattle.component_report.specs.JsonLines.{json_group, json_head, json_lines}
 use Rattle.component_report.specs.Report.{head_line, place_line, report_in}
-use Rattle.component_report.specs.Reportable.{AreLeveled}
+use Rattle.report_lines.specs.Reportable.{AreLeveled}
 use Rattle.component_report.specs.declared.form.Form.{Form}
 use Rattle.component_report.specs.declared.form.Form.TheVariants.{Lines, Json}
 use Rattle.component_answer.specs.declared.answer.Wanted.{Wanted}

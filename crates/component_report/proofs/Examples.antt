@@ -7,7 +7,8 @@ use Rattle.group_release.specs.declared.level.Level.{Level}
 use Rattle.component_report.specs.declared.form.Form.TheVariants.{Lines, Json}
 use Rattle.component_report.specs.Cycles.{cycle_line}
 use Rattle.component_report.specs.JsonLines.{json_group}
-use Rattle.component_report.specs.Report.{group_line, head_line, height_count, order_report, report_in}
+use Rattle.report_lines.specs.Head.{height_count}
+use Rattle.component_report.specs.Report.{group_line, head_line, order_report, report_in}
 
 abbrev plain : ℕ → Level
 plain height = record { height = height; recursive = false }

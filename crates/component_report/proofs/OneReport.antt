@@ -1,15 +1,16 @@
 -- Groups that are the same in any legal order have one report.
-use Rattle.std.proofs.Common.{◌≡◌, ℕ, ◌+◌, List, [], ◌∷◌, ◌++◌, sym, refl, ◌∙◌, ap}
+use Rattle.std.proofs.Common.{◌≡◌, ℕ, ◌+◌, List, [], ◌∷◌, ◌++◌, codes, sym, refl, ◌∙◌, ap}
 use Rattle.std.specs.List.{flat_map}
 use Rattle.std.proofs.lemmas.List.Folds.{flat_map-map}
 use Rattle.group_release.specs.declared.level.Level.{Level}
-use Rattle.component_report.specs.Reportable.{AreLeveled}
+use Rattle.report_lines.specs.Reportable.{AreLeveled}
 use Rattle.component_report.specs.Report.{IsReport, group_line, place_line, head_line}
 use Rattle.component_report.specs.JsonLines.{json_group, json_head, json_lines}
 use Rattle.component_report.specs.declared.form.Form.{Form}
 use Rattle.component_report.specs.declared.form.Form.TheVariants.{Lines, Json}
-use Rattle.component_report.proofs.OneLine.{line_at, lines, same_lines}
-use Rattle.component_report.proofs.OneHead.{same_head, same_json_head}
+use Rattle.report_lines.proofs.OneLine.{line_at, lines, same_lines}
+use Rattle.report_lines.proofs.OneHead.{same_head}
+use Rattle.component_report.proofs.OneHead.{same_json_head}
 
 abbrev line_text : List (List ℕ) → List ℕ × Level → List ℕ
 line_text names line = group_line names line.0 line.1
@@ -19,7 +20,7 @@ same_words : {calls : ℕ → ℕ → Type 0} {starts : List ℕ} {groups others
     → IsReport Lines names others marks other → bytes ≡ other
 same_words {calls} {starts} {groups} {others} {levels} {marks} names bytes other a b first second =
     let same = same_lines a b first.order second.order first.in_order second.in_order in
-    let head : head_line groups levels ≡ head_line others marks = same_head a b in
+    let head : head_line groups levels ≡ head_line others marks = same_head (codes "nodes ") a b in
     let of_groups : flat_map (place_line names groups levels) first.order ≡ flat_map (place_line names others marks) second.order =
     sym (flat_map-map (line_text names) (line_at groups levels) first.order)
     ∙ (ap (flat_map (line_text names)) same ∙ flat_map-map (line_text names) (line_at others marks) second.order) in

@@ -4,7 +4,8 @@ use Rattle.std.specs.List.{flat_map}
 use Rattle.group_release.specs.declared.level.Level.{Level}
 use Rattle.component_report.specs.Json.{with_commas}
 use Rattle.component_report.specs.JsonLines.{json_member}
-use Rattle.component_report.specs.Report.{IsLineOrder, member_text}
+use Rattle.report_lines.specs.LineOrder.{IsLineOrder}
+use Rattle.component_report.specs.Report.{member_text}
 use Rattle.component_report.specs.declared.form.Form.{Form}
 use Rattle.component_report.specs.declared.form.Form.TheVariants.{Lines, Json}
 

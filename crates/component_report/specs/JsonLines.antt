@@ -5,7 +5,7 @@ use Rattle.graph_law.specs.Classes.{group_at}
 use Rattle.group_release.specs.declared.level.Level.{Level}
 use Rattle.group_release.specs.Level.{level_at}
 use Rattle.byte_names.specs.Names.{name_at}
-use Rattle.component_report.specs.Heights.{height_count}
+use Rattle.report_lines.specs.Head.{height_count}
 use Rattle.component_report.specs.Json.{json_name, with_commas}
 
 -- the first line: `{"nodes":N,"groups":G,"recursive":R,"levels":L}`

@@ -5,13 +5,13 @@ ghost use Rattle.std.specs.List.{flat_map};
 ghost use Rattle.graph_law.specs.Graph.{lists_of};
 ghost use Rattle.byte_names.specs.Names.{names_of};
 ghost use Rattle.component_report.specs.Cycles.{AreCycleLines, IsCycleWithin, cycle_line, cycle_line_at, loop_line, see_cycle};
-ghost use Rattle.component_report.specs.Reportable.{AreReportable};
+ghost use Rattle.report_lines.specs.Reportable.{AreReportable};
 
 use crate::form::Form;
 use crate::json_lines::push_json_loop;
-use crate::line_order::sorted_order;
 use crate::lines::push_loop;
 use group_release::Level;
+use report_lines::line_order;
 use std::alloc::{AllocError, Global};
 
 /// Adds the line of a cycle of these nodes.
@@ -85,7 +85,7 @@ pub fn cycle_lines(
     ensures { IfOk result (λ bytes. AreCycleLines form (names_of names.now) (lists_of groups.now) levels.now
         (map see_cycle cycles.now) bytes.items) }
 {
-    let order = sorted_order(alloc, groups, levels)?;
+    let order = line_order(alloc, names.len() as u32, groups, levels)?;
     let mut text = Vec::new(alloc);
     push_cycles(&mut text, names, cycles, &order, form)?;
     Ok(text)

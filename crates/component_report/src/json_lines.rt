@@ -9,9 +9,10 @@ ghost use Rattle.component_report.specs.Json.{with_commas};
 ghost use Rattle.component_report.specs.JsonLines.{json_group, json_head, json_lines, json_member, truth_of};
 ghost use Rattle.component_report.specs.declared.form.Form.TheVariants.{Json};
 
-use crate::head::{height_count, member_count, push_count, push_text, recursive_count};
+use crate::head::{push_count, push_text};
 use crate::json::push_json_name;
 use group_release::Level;
+use report_lines::{height_count, member_count, recursive_count};
 use std::alloc::AllocError;
 
 /// Adds the first line: `{"nodes":N,"groups":G,"recursive":R,"levels":L}`.

@@ -5,7 +5,7 @@ ghost use Rattle.graph_law.specs.Graph.{Calls};
 ghost use Rattle.group_release.specs.declared.level.Level.{Level};
 ghost use Rattle.component_report.specs.Report.{IsReport};
 ghost use Rattle.component_report.specs.declared.form.Form.{Form};
-ghost use Rattle.component_report.specs.Reportable.{AreLeveled};
+ghost use Rattle.report_lines.specs.Reportable.{AreLeveled};
 
 /// Groups have at most one report of each form, in whatever reverse topological order they are given.
 pub fn one_report()

@@ -17,7 +17,6 @@ mod head;
 mod json;
 mod json_lines;
 mod laws;
-mod line_order;
 mod lines;
 mod number;
 mod whole;

@@ -5,12 +5,13 @@ ghost use Rattle.std.specs.List.{flat_map};
 ghost use Rattle.graph_law.specs.Graph.{lists_of};
 ghost use Rattle.byte_names.specs.Names.{names_of};
 ghost use Rattle.component_report.specs.Cycles.{loop_line};
-ghost use Rattle.component_report.specs.Report.{group_line, kind_of, member_text, place_line};
+ghost use Rattle.component_report.specs.Report.{group_line, member_text, place_line};
 ghost use Rattle.component_report.specs.declared.form.Form.TheVariants.{Lines};
 
 use crate::head::push_text;
 use crate::number::push_number;
 use group_release::Level;
+use report_lines::kind_name;
 use std::alloc::AllocError;
 
 /// Adds a space and the name of the node.
@@ -33,12 +34,6 @@ fn push_members(text: &mut Vec<u8>, names: &[&[u8]], members: &[u32]) -> Result<
         push_member(text, names, member)?;
     }
     Ok(())
-}
-
-fn kind_name(recursive: bool) -> &'static str
-    ensures { result.now ≡ kind_of recursive }
-{
-    if recursive { " recursive" } else { " plain" }
 }
 
 /// Adds the line of a group.

@@ -4,14 +4,14 @@ ghost use Rattle.std.specs.Prelude.{◌≡◌, ◌<◌, ◌^◌, All, IfOk, leng
 ghost use Rattle.graph_law.specs.Graph.{lists_of};
 ghost use Rattle.byte_names.specs.Names.{names_of};
 ghost use Rattle.component_report.specs.Report.{IsReport, order_report, report_in};
-ghost use Rattle.component_report.specs.Reportable.{ArePrintable, AreReportable};
+ghost use Rattle.report_lines.specs.Reportable.{ArePrintable, AreReportable};
 
 use crate::form::Form;
 use crate::head::push_head;
 use crate::json_lines::{push_json_groups, push_json_head};
-use crate::line_order::{order_given, sorted_order};
 use crate::lines::push_groups;
 use group_release::Level;
+use report_lines::{group_count, line_order, order_given};
 use std::alloc::{AllocError, Global};
 
 /// The initial capacity of a text in bytes for each of its lines.
@@ -33,7 +33,7 @@ pub fn report(
     requires groups { AreReportable (length names.now) (lists_of groups.now) levels.now }
     ensures { IfOk result (λ bytes. IsReport form (names_of names.now) (lists_of groups.now) levels.now bytes.items) }
 {
-    let order = sorted_order(alloc, groups, levels)?;
+    let order = line_order(alloc, names.len() as u32, groups, levels)?;
     let bytes = written(alloc, names, groups, levels, &order, form)?;
     Ok(bytes)
 }
@@ -50,7 +50,7 @@ pub fn order_report(
     requires groups { AreReportable (length names.now) (lists_of groups.now) levels.now }
     ensures { IfOk result (λ bytes. bytes.items ≡ order_report form (names_of names.now) (lists_of groups.now) levels.now) }
 {
-    let order = order_given(alloc, groups.len() as u32)?;
+    let order = order_given(alloc, group_count(groups))?;
     let bytes = written(alloc, names, groups, levels, &order, form)?;
     Ok(bytes)
 }

@@ -18,7 +18,7 @@ use Rattle.call_edges.specs.Calls.{NodeCalls}
 use Rattle.call_edges.specs.Successors.{successor_lists}
 use Rattle.call_edges.proofs.SuccessorLemmas.{lists_count, list_has, lists_closed}
 use Rattle.group_words.specs.Settings.{Settings}
-use Rattle.loop_report.specs.Reportable.{AreGroups, AreLeveled, AreReportable}
+use Rattle.report_lines.specs.Reportable.{AreGroups, AreLeveled, AreReportable}
 use Rattle.group_tool.specs.Driving.{AreInScheduleOrder}
 use Rattle.tool_run.specs.Roots.{AreRootNumbers}
 use Rattle.tool_run.specs.Say.{concatenated}

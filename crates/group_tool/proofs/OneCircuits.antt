@@ -8,11 +8,11 @@ use Rattle.group_release.specs.declared.level.Level.{Level}
 use Rattle.import_rules.specs.declared.names.PredName.{PredName}
 use Rattle.loop_paths.specs.Circuits.{AreCircuits, IsCircuit}
 use Rattle.loop_paths.proofs.OneLeast.{one_circuit}
-use Rattle.loop_report.specs.Report.{IsLineOrder}
-use Rattle.loop_report.specs.Reportable.{AreLeveled}
+use Rattle.report_lines.specs.LineOrder.{IsLineOrder}
+use Rattle.report_lines.specs.Reportable.{AreLeveled}
 use Rattle.loop_report.specs.Walks.{AreCircuitLines, circuit_line}
-use Rattle.loop_report.proofs.LineOrder.{places_within}
-use Rattle.loop_report.proofs.OneLine.{line_at, lines, same_lines}
+use Rattle.report_lines.proofs.LineOrder.{places_within}
+use Rattle.report_lines.proofs.OneLine.{line_at, lines, same_lines}
 
 abbrev circuit_at : List (Option (List ℕ)) → ℕ → Option (List ℕ)
 circuit_at circuits place = get_or circuits place None

@@ -12,7 +12,7 @@ use Rattle.import_rules.specs.declared.names.PredName.{PredName}
 use Rattle.import_rules.specs.Program.{Seen}
 use Rattle.call_edges.specs.Calls.{NodeCalls}
 use Rattle.group_words.specs.Settings.{Settings}
-use Rattle.loop_report.specs.Reportable.{AreLeveled}
+use Rattle.report_lines.specs.Reportable.{AreLeveled}
 use Rattle.loop_report.proofs.OneEffects.{same_effects}
 use Rattle.group_tool.specs.Parts.{AreOwnKinds, AreParts, IsPart, IsPathPart, TellEffects, TellLoops, path_line}
 use Rattle.group_tool.proofs.OneCircuits.{same_circuit_lines}

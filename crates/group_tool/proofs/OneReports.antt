@@ -1,11 +1,11 @@
 -- A program has one report, in whatever legal order its groups are.
-use Rattle.std.proofs.Common.{◌≡◌, ℕ, ◌++◌, List, Bool, true, false, Option, Some, None, ap₂, sym, ◌∙◌, subst}
+use Rattle.std.proofs.Common.{◌≡◌, ℕ, ◌++◌, codes, List, Bool, true, false, Option, Some, None, ap₂, sym, ◌∙◌, subst}
 use Rattle.group_release.specs.declared.level.Level.{Level}
 use Rattle.import_rules.specs.Program.{Seen}
 use Rattle.call_edges.specs.Calls.{NodeCalls}
-use Rattle.loop_report.specs.Reportable.{AreLeveled}
+use Rattle.report_lines.specs.Reportable.{AreLeveled}
 use Rattle.group_words.specs.Settings.{Settings}
-use Rattle.loop_report.proofs.OneHead.{same_head}
+use Rattle.report_lines.proofs.OneHead.{same_head}
 use Rattle.loop_report.proofs.OneReport.{same_report}
 use Rattle.tool_run.proofs.OneLoaded.{IsToldOnce, one_root_list}
 use Rattle.tool_run.proofs.RootLemmas.{AreRising}
@@ -15,7 +15,7 @@ use Rattle.group_tool.proofs.OneParts.{same_parts}
 same_output : (make : Option ℕ) (order unreached : Bool) (seen : Seen) (roots : List ℕ) (groups others : List (List ℕ)) (levels marks : List Level) (bytes other : List ℕ)
     → order ≡ false → AreLeveled (NodeCalls seen) roots groups levels → AreLeveled (NodeCalls seen) roots others marks → IsOutput make order unreached seen groups levels bytes
     → IsOutput make order unreached seen others marks other → bytes ≡ other
-same_output (Some count) order unreached seen roots groups others levels marks bytes other unordered a b is also = is ∙ (same_head a b ∙ sym also)
+same_output (Some count) order unreached seen roots groups others levels marks bytes other unordered a b is also = is ∙ (same_head (codes "predicates ") a b ∙ sym also)
 same_output None true unreached seen roots groups others levels marks bytes other unordered a b is also = cc
 same_output None false unreached seen roots groups others levels marks bytes other unordered a b is also =
     same_report seen.predicates seen.loaded.files unreached bytes other a b is also

@@ -21,7 +21,7 @@ use Rattle.call_edges.specs.Calls.{NodeCalls}
 use Rattle.call_edges.specs.Successors.{successor_lists}
 use Rattle.call_edges.proofs.SuccessorLemmas.{lists_closed, lists_count}
 use Rattle.loop_report.specs.Effects.{AreEffectLines}
-use Rattle.loop_report.specs.Reportable.{AreLeveled}
+use Rattle.report_lines.specs.Reportable.{AreLeveled}
 use Rattle.loop_report.specs.Walks.{AreCircuitLines, IsCircuitWithin}
 use Rattle.group_tool.specs.Parts.{AreOwnKinds, IsPart, IsPathPart, TellEffects, TellLoops, path_line}
 use Rattle.tool_run.specs.Roots.{AreEnds}

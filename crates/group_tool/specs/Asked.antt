@@ -5,7 +5,7 @@ use Rattle.call_edges.specs.GoalFaults.{AreGoalFaults}
 use Rattle.graph_law.specs.Graph.{Calls, lists_of}
 use Rattle.import_rules.specs.Program.{Seen}
 use Rattle.group_words.specs.Settings.{Settings}
-use Rattle.loop_report.specs.Reportable.{AreLeveled}
+use Rattle.report_lines.specs.Reportable.{AreLeveled}
 use Rattle.tool_run.specs.Roots.{AreEnds, AreRootNumbers, HasRoots, asked_names}
 use Rattle.group_tool.specs.Driving.{AreInScheduleOrder}
 use Rattle.group_tool.specs.declared.asked.Asked.{Asked}

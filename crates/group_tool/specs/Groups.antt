@@ -6,7 +6,7 @@ use Rattle.call_edges.specs.Calls.{NodeCalls}
 use Rattle.call_edges.specs.Successors.{successor_lists}
 use Rattle.group_words.specs.Settings.{Settings}
 use Rattle.loop_report.specs.Report.{IsReport, IsOrderReport, head_line}
-use Rattle.loop_report.specs.Reportable.{AreLeveled}
+use Rattle.report_lines.specs.Reportable.{AreLeveled}
 use Rattle.tool_run.specs.Roots.{AreRootNumbers, asked_names}
 use Rattle.tool_run.specs.Tool.{Tool}
 use Rattle.group_tool.specs.Driving.{AreInScheduleOrder}

@@ -10,7 +10,7 @@ ghost use Rattle.tool_run.specs.Run.{EndIs};
 ghost use Rattle.tool_run.specs.Say.{concatenated};
 ghost use Rattle.tool_run.specs.Stop.{end_of, end_of_stop};
 ghost use Rattle.tool_run.specs.Wanted.{IsJust};
-ghost use Rattle.loop_report.specs.Reportable.{AreGroups};
+ghost use Rattle.report_lines.specs.Reportable.{AreGroups};
 
 use crate::asked::{Asked, Grouped};
 use crate::driver::{groups_alone, groups_by_stream, groups_by_workers};

@@ -4,7 +4,7 @@
 ghost use Rattle.std.specs.Prelude.{◌≡◌, ◌<◌, ◌≤◌, [], List, ℕ, None, true, All, IfOk, length};
 ghost use Rattle.graph_law.specs.Graph.{Calls as ListCalls, lists_of};
 ghost use Rattle.call_edges.specs.Successors.{successor_lists};
-ghost use Rattle.loop_report.specs.Reportable.{AreGroups, AreLeveled};
+ghost use Rattle.report_lines.specs.Reportable.{AreGroups, AreLeveled};
 ghost use Rattle.group_words.specs.Settings.{AreLawful, see_options};
 ghost use Rattle.group_tool.specs.Driving.{AreInScheduleOrder};
 

@@ -7,7 +7,7 @@ ghost use Rattle.group_tool.specs.Asked.{IsGroupedOf};
 ghost use Rattle.group_tool.specs.Groups.{IsOutput, ReportsProgram};
 ghost use Rattle.group_tool.specs.Parts.{IsPart, IsPathPart, TellEffects, TellLoops};
 ghost use Rattle.loop_report.specs.Report.{head_line};
-ghost use Rattle.loop_report.specs.Reportable.{AreReportable};
+ghost use Rattle.report_lines.specs.Reportable.{AreReportable};
 ghost use Rattle.tool_run.specs.Say.{concatenated};
 
 use crate::asked::Grouped;

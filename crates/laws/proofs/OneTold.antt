@@ -7,7 +7,7 @@ use Rattle.graph_law.specs.Graph.{Calls}
 use Rattle.group_release.specs.declared.level.Level.{Level}
 use Rattle.import_rules.specs.Program.{Seen, meta_in}
 use Rattle.call_edges.specs.Successors.{successor_lists}
-use Rattle.loop_report.specs.Reportable.{AreLeveled}
+use Rattle.report_lines.specs.Reportable.{AreLeveled}
 use Rattle.call_table.specs.Marks.{ProgramMarks, marks_at}
 use Rattle.call_table.specs.Memberships.{AreGroupsOf}
 use Rattle.call_table.specs.Table.{IsTable}

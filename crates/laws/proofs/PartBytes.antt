@@ -30,10 +30,10 @@ use Rattle.call_edges.proofs.AmongLemmas.{flat_has}
 use Rattle.call_edges.proofs.SuccessorLemmas.{lists_closed, lists_count, node_mets_are}
 use Rattle.group_words.specs.Settings.{Settings}
 use Rattle.loop_report.specs.Effects.{place_effects}
-use Rattle.loop_report.specs.Report.{IsLineOrder}
-use Rattle.loop_report.specs.Reportable.{AreLeveled, LeastDiffer}
+use Rattle.report_lines.specs.LineOrder.{IsLineOrder}
+use Rattle.report_lines.specs.Reportable.{AreLeveled, LeastDiffer}
 use Rattle.loop_report.specs.Walks.{circuit_line_at}
-use Rattle.loop_report.proofs.Printable.{least_differ}
+use Rattle.report_lines.proofs.Printable.{least_differ}
 use Rattle.group_tool.specs.Parts.{AreOwnKinds, AreParts, IsPart, IsPathPart, TellEffects, TellLoops, path_line}
 use Rattle.tool_run.specs.Roots.{HasRoots, asked_names}
 use Rattle.group_tool.proofs.GroupLemmas.{members_listed}

@@ -13,7 +13,7 @@ use Rattle.call_edges.specs.Successors.{successor_lists}
 use Rattle.call_edges.proofs.SuccessorLemmas.{lists_closed}
 use Rattle.group_words.specs.Settings.{Settings}
 use Rattle.loop_report.specs.Report.{head_line}
-use Rattle.loop_report.specs.Reportable.{AreGroups, AreLeveled, AreReportable}
+use Rattle.report_lines.specs.Reportable.{AreGroups, AreLeveled, AreReportable}
 use Rattle.group_tool.specs.Driving.{AreInScheduleOrder}
 use Rattle.tool_run.specs.Roots.{AreRootNumbers, HasRoots, asked_names}
 use Rattle.group_tool.specs.Groups.{IsOutput, ReportsProgram}

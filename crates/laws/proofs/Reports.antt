@@ -14,11 +14,12 @@ use Rattle.import_rules.proofs.Lists.{all_by}
 use Rattle.laws.proofs.Orders.{HasSorted, has_sorted}
 use Rattle.loop_report.specs.ImportLoops.{AreImportLoops, AreModules, names_at}
 use Rattle.loop_report.specs.ModuleGraph.{AreLoadLists, AreRings}
-use Rattle.loop_report.specs.Report.{IsLineOrder, IsOrderReport, IsReport, IsReportIn, head_line, loop_line, place_line, unreached_lines}
-use Rattle.loop_report.specs.Reportable.{AreReportable, LeastDiffer}
-use Rattle.loop_report.proofs.LineOrder.{line_at, line_cmp, line_cmp_total, ordered, places}
+use Rattle.report_lines.specs.LineOrder.{IsLineOrder}
+use Rattle.loop_report.specs.Report.{IsOrderReport, IsReport, IsReportIn, head_line, loop_line, place_line, unreached_lines}
+use Rattle.report_lines.specs.Reportable.{AreReportable, LeastDiffer}
+use Rattle.report_lines.proofs.LineOrder.{line_at, line_cmp, line_cmp_total, ordered, places}
 use Rattle.loop_report.proofs.LoopsMade.{loops_made}
-use Rattle.loop_report.proofs.Printable.{least_differ, members_are_nodes}
+use Rattle.report_lines.proofs.Printable.{least_differ, members_are_nodes}
 use Rattle.laws.proofs.ModuleLists.{lists_closed, load_lists, modules_of}
 use Rattle.laws.proofs.Rings.{rings_of}
 

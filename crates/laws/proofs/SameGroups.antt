@@ -11,8 +11,8 @@ use Rattle.graph_law.proofs.Unique.{class_unique}
 use Rattle.group_release.specs.declared.level.Level.{Level}
 use Rattle.group_release.specs.Level.{level_at}
 use Rattle.import_rules.specs.declared.names.PredName.{PredName}
-use Rattle.loop_report.specs.Reportable.{AreLeveled}
-use Rattle.loop_report.proofs.OneLine.{one_level, reached_has}
+use Rattle.report_lines.specs.Reportable.{AreLeveled}
+use Rattle.report_lines.proofs.OneLine.{one_level, reached_has}
 use Rattle.call_table.specs.Memberships.{AreGroupsOf, IsGroupOf}
 use Rattle.call_told.specs.Told.{told_nodes}
 use Rattle.call_writer.specs.Dot.{condensed_node, node_at_least}

@@ -6,7 +6,7 @@ use Rattle.module_table.specs.Facts.{Facts}
 use Rattle.import_rules.specs.declared.names.PredName.{PredName}
 use Rattle.group_words.specs.Settings.{Settings, AreLawful}
 use Rattle.loop_report.specs.Report.{IsReport, IsOrderReport}
-use Rattle.loop_report.specs.Reportable.{AreReportable}
+use Rattle.report_lines.specs.Reportable.{AreReportable}
 
 -- words set some settings, or none
 abbrev pub WordsAreDecided : Type 0

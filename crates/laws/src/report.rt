@@ -6,7 +6,7 @@ ghost use Rattle.group_release.specs.declared.level.Level.{Level};
 ghost use Rattle.import_rules.specs.declared.names.PredName.{PredName};
 ghost use Rattle.loop_report.specs.ImportLoops.{AreImportLoops};
 ghost use Rattle.loop_report.specs.Report.{IsOrderReport, IsReport};
-ghost use Rattle.loop_report.specs.Reportable.{AreReportable};
+ghost use Rattle.report_lines.specs.Reportable.{AreReportable};
 ghost use Rattle.module_table.specs.Facts.{Facts};
 
 use crate::schedule::order_exists;

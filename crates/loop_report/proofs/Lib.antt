@@ -1,17 +1,12 @@
 mod BareSpells
-pub mod LineOrder
-pub mod LaidOut
 pub mod Lists
 pub mod LoopsMade
 pub mod Marks
 pub mod ModuleCalls
 pub mod ModuleNames
-pub mod OneLine
 pub mod OneLoops
-pub mod OneHead
 pub mod OneReport
 pub mod Pieces
-pub mod Printable
 pub mod ProgramFiles
 mod QuotedNames
 mod ReadBack

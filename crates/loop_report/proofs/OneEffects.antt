@@ -12,9 +12,9 @@ use Rattle.effect_flow.specs.Carriers.{AreFlows, HasKind, IsCarrier, first_at, f
 use Rattle.effect_flow.proofs.Known.{one_carrier}
 use Rattle.import_rules.specs.declared.names.PredName.{PredName}
 use Rattle.loop_report.specs.Effects.{AreEffectLines, effect_line, group_effects, kind_word, place_effects}
-use Rattle.loop_report.specs.Report.{least_at}
-use Rattle.loop_report.specs.Reportable.{AreLeveled}
-use Rattle.loop_report.proofs.OneLine.{line_at, lines, same_lines}
+use Rattle.report_lines.specs.LineOrder.{least_at}
+use Rattle.report_lines.specs.Reportable.{AreLeveled}
+use Rattle.report_lines.proofs.OneLine.{line_at, lines, same_lines}
 use Rattle.list_laws.proofs.OneOrder.{order_below}
 
 -- texts that are equal place by place

@@ -1,5 +1,5 @@
 -- Groups that are the same in any legal order have one report.
-use Rattle.std.proofs.Common.{◌≡◌, ℕ, Bool, true, false, not, if◌then◌else◌, List, [], ◌++◌, refl, length, nat_eq, Contains, sym, subst, ◌∙◌, ap}
+use Rattle.std.proofs.Common.{◌≡◌, ℕ, Bool, true, false, not, if◌then◌else◌, List, [], ◌++◌, codes, refl, length, nat_eq, Contains, sym, subst, ◌∙◌, ap}
 use Rattle.std.specs.List.{flat_map, filter, list_any, range_with_len}
 use Rattle.std.proofs.lemmas.Bool.Decides.{Decides-eqb}
 use Rattle.std.proofs.lemmas.Cmp.{nat_eq_equiv}
@@ -10,10 +10,10 @@ use Rattle.module_table.specs.Facts.{Facts}
 use Rattle.graph_law.specs.Classes.{HasMember, group_at}
 use Rattle.group_release.specs.declared.level.Level.{Level}
 use Rattle.import_rules.specs.declared.names.PredName.{PredName}
-use Rattle.loop_report.specs.Reportable.{AreGroups, AreLeveled}
+use Rattle.report_lines.specs.Reportable.{AreGroups, AreLeveled}
 use Rattle.loop_report.specs.Report.{IsReport, group_line, place_line, head_line, loop_line, is_grouped, ungrouped, unreached_line}
-use Rattle.loop_report.proofs.OneLine.{line_at, same_lines, reached_has}
-use Rattle.loop_report.proofs.OneHead.{same_head}
+use Rattle.report_lines.proofs.OneLine.{line_at, same_lines, reached_has}
+use Rattle.report_lines.proofs.OneHead.{same_head}
 use Rattle.loop_report.proofs.OneLoops.{one_list_of_loops}
 
 abbrev line_text : List PredName → List ℕ × Level → List ℕ
@@ -58,7 +58,7 @@ pub same_report : {calls : ℕ → ℕ → Type 0} {starts : List ℕ} {groups o
     → IsReport predicates files groups levels unreached bytes → IsReport predicates files others marks unreached other → bytes ≡ other
 same_report {calls} {starts} {groups} {others} {levels} {marks} predicates files unreached bytes other a b first second =
     let same = same_lines a b first.order second.order first.in_order second.in_order in
-    let head : head_line groups levels ≡ head_line others marks = same_head a b in
+    let head : head_line groups levels ≡ head_line others marks = same_head (codes "predicates ") a b in
     let of_groups : flat_map (place_line predicates groups levels) first.order ≡ flat_map (place_line predicates others marks) second.order =
     sym (flat_map-map (line_text predicates) (line_at groups levels) first.order)
     ∙ (ap (flat_map (line_text predicates)) same ∙ flat_map-map (line_text predicates) (line_at others marks) second.order) in

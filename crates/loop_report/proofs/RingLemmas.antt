@@ -25,7 +25,7 @@ use Rattle.list_laws.proofs.OneOrder.{range_has, holds_of, nothing_in}
 use Rattle.import_rules.proofs.PartsSoFar.{element_at}
 use Rattle.loop_report.specs.ImportLoops.{names_at}
 use Rattle.loop_report.specs.ModuleGraph.{IsRing, AreRings}
-use Rattle.loop_report.specs.Reportable.{LeastDiffer}
+use Rattle.report_lines.specs.Reportable.{LeastDiffer}
 
 -- the class loads itself, and isn't the module `user` alone
 abbrev pub IsLooping : List (List ℕ) → List (List ℕ) → List ℕ → Type 0

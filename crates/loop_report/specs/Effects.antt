@@ -6,7 +6,7 @@ use Rattle.effect_flow.specs.declared.kinds.TheConstants.{KINDS}
 use Rattle.effect_flow.specs.Carriers.{first_at, flow_at}
 use Rattle.import_rules.specs.declared.names.PredName.{PredName}
 use Rattle.loop_report.specs.Names.{member_name}
-use Rattle.loop_report.specs.Report.{IsLineOrder, least_at}
+use Rattle.report_lines.specs.LineOrder.{IsLineOrder, least_at}
 
 -- the words of the kinds, by their numbers
 abbrev pub kind_words : List (List ℕ)

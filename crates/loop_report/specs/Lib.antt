@@ -1,11 +1,9 @@
 pub mod Effects
 pub mod ImportLoops
-pub mod Lines
 pub mod ModuleGraph
 pub mod Names
 pub mod ReadBack
 pub mod Report
-pub mod Reportable
 pub mod Spelled
 pub mod Texts
 pub mod Walks

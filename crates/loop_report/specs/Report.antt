@@ -1,50 +1,26 @@
 -- The report: a head line, a line for each group, a line for each import loop, and where they are asked for the predicates that are in no group.
-use Rattle.std.specs.Prelude.{◌≡◌, ℕ, ◌+◌, ◌<◌, ◌⊎◌, Bool, not, List, [], ◌++◌, length, max, map, sum_by, count_by, fold, AllPairs, IsPermutation, nat_eq}
+use Rattle.std.specs.Prelude.{◌≡◌, ℕ, Bool, not, List, [], ◌++◌, length, nat_eq}
 use Rattle.std.specs.Prelude.{if◌then◌else◌, codes}
 use Rattle.std.specs.Fmt.{decimal}
 use Rattle.std.specs.List.{flat_map, filter, list_any, range_with_len}
-use Rattle.graph_law.specs.Classes.{group_at, least_member}
+use Rattle.graph_law.specs.Classes.{group_at}
 use Rattle.group_release.specs.declared.level.Level.{Level}
 use Rattle.group_release.specs.Level.{level_at}
 use Rattle.module_table.specs.Facts.{Facts}
 use Rattle.import_rules.specs.declared.names.PredName.{PredName}
+use Rattle.report_lines.specs.Head.{head_of, kind_of}
+use Rattle.report_lines.specs.LineOrder.{IsLineOrder}
 use Rattle.loop_report.specs.Spelled.{spelled_name}
 use Rattle.loop_report.specs.Names.{member_name}
 use Rattle.loop_report.specs.ImportLoops.{AreImportLoops}
-
--- `recursive` or `plain`
-abbrev pub kind_of : Bool → List ℕ
-kind_of recursive = if recursive then codes " recursive" else codes " plain"
 
 -- the line of a group: `HEIGHT KIND NAME NAME ..`
 abbrev pub group_line : List PredName → List ℕ → Level → List ℕ
 group_line predicates members level = decimal level.height ++ kind_of level.recursive ++ flat_map (member_name predicates) members ++ codes "\n"
 
--- one more than the greatest height, or 0 where there is no level
-abbrev pub height_count : List Level → ℕ
-height_count levels = fold max 0 (map (λ (level : Level). level.height + 1) levels)
-
 -- the first line: `predicates P groups G recursive R levels L`
 abbrev pub head_line : List (List ℕ) → List Level → List ℕ
-head_line groups levels =
-    (codes "predicates " ++ decimal (sum_by length groups)) ++ (codes " groups " ++ decimal (length groups))
-    ++ (codes " recursive " ++ decimal (count_by (λ (level : Level). level.recursive) levels))
-    ++ (codes " levels " ++ decimal (height_count levels)) ++ codes "\n"
-
--- the least member of the group at a place
-abbrev pub least_at : List (List ℕ) → ℕ → ℕ
-least_at groups place = least_member (group_at groups place)
-
--- the group at a is lower than the one at b, or as high with a lesser least member
-abbrev pub ComesBefore : List (List ℕ) → List Level → ℕ → ℕ → Type 0
-ComesBefore groups levels a b =
-    ((level_at levels a).height < (level_at levels b).height)
-    ⊎ (((level_at levels a).height ≡ (level_at levels b).height) × (least_at groups a < least_at groups b))
-
--- the places of the groups, line by line: each once, in order of height and least member
-pub record IsLineOrder (groups : List (List ℕ)) (levels : List Level) (order : List ℕ) : Type 0 where
-  pub each_once : IsPermutation (range_with_len 0 (length groups)) order
-  pub rising : AllPairs (ComesBefore groups levels) order
+head_line groups levels = head_of (codes "predicates ") groups levels
 
 -- the line of the group at a place
 abbrev pub place_line : List PredName → List (List ℕ) → List Level → ℕ → List ℕ

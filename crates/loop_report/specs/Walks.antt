@@ -4,7 +4,7 @@ use Rattle.std.specs.List.{flat_map}
 use Rattle.group_release.specs.declared.level.Level.{Level}
 use Rattle.import_rules.specs.declared.names.PredName.{PredName}
 use Rattle.loop_report.specs.Names.{member_name}
-use Rattle.loop_report.specs.Report.{IsLineOrder}
+use Rattle.report_lines.specs.LineOrder.{IsLineOrder}
 
 -- the line of a walk: `WORD NAME NAME ..`
 abbrev pub walk_line : List PredName → List ℕ → List ℕ → List ℕ

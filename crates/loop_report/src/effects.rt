@@ -7,14 +7,14 @@ ghost use Rattle.effect_flow.specs.Carriers.{first_at, flow_at};
 ghost use Rattle.effect_flow.specs.Seen.{see_flow, see_flows};
 ghost use Rattle.effect_flow.specs.declared.kinds.TheConstants.{KINDS};
 ghost use Rattle.loop_report.specs.Effects.{AreEffectLines, effect_line, group_effects, kind_word};
-ghost use Rattle.loop_report.specs.Reportable.{AreReportable};
+ghost use Rattle.report_lines.specs.Reportable.{AreReportable};
 
 use crate::last_module::LastModule;
-use crate::line_order::{least_of, line_order};
 use crate::names::push_member;
 use effect_flow::{Flow, KINDS};
 use group_release::Level;
 use import_rules::Program;
+use report_lines::{least_of, line_order};
 use std::alloc::{AllocError, Global};
 
 /// The word of a kind.

@@ -3,12 +3,13 @@ ghost use Rattle.std.specs.List.{flat_map};
 ghost use Rattle.std.specs.String.{string_bytes};
 ghost use Rattle.graph_law.specs.Graph.{lists_of};
 ghost use Rattle.loop_report.specs.Names.{member_name};
-ghost use Rattle.loop_report.specs.Report.{group_line, kind_of, place_line};
+ghost use Rattle.loop_report.specs.Report.{group_line, place_line};
 
 use crate::last_module::LastModule;
 use crate::names::{push_member, push_number};
 use group_release::Level;
 use import_rules::Program;
+use report_lines::kind_name;
 use std::alloc::{AllocError, Global};
 
 /// Adds the lines of the groups at these indices.
@@ -55,12 +56,6 @@ fn push_group<'a>(
     push_members(text, program, last, members)?;
     text.push_str("\n")?;
     Ok(())
-}
-
-fn kind_name(recursive: bool) -> &'static str
-    ensures { result.now ≡ kind_of recursive }
-{
-    if recursive { " recursive" } else { " plain" }
 }
 
 /// Adds the names of these predicates, each after a space.

@@ -4,7 +4,7 @@ ghost use Rattle.std.specs.Prelude.{◌≡◌, ◌<◌, IfOk, All, length};
 ghost use Rattle.std.specs.List.{flat_map};
 ghost use Rattle.graph_law.specs.Graph.{lists_of};
 ghost use Rattle.loop_report.specs.Report.{place_line};
-ghost use Rattle.loop_report.specs.Reportable.{ArePrintable};
+ghost use Rattle.report_lines.specs.Reportable.{ArePrintable};
 ghost use Rattle.loop_report.specs.Texts.{concatenated};
 
 use crate::group_lines::push_groups;

@@ -1,12 +1,13 @@
-ghost use Rattle.std.specs.Prelude.{◌≡◌, ℕ, ◌<◌, ◌^◌, ◌++◌, IfOk, OnOk, All, length, sum_by, count_by};
+ghost use Rattle.std.specs.Prelude.{◌≡◌, ℕ, ◌<◌, ◌^◌, ◌++◌, IfOk, OnOk, All, length};
 ghost use Rattle.std.specs.Fmt.{decimal};
 ghost use Rattle.std.specs.String.{string_bytes};
 ghost use Rattle.graph_law.specs.Graph.{lists_of};
-ghost use Rattle.loop_report.specs.Report.{head_line, height_count};
-ghost use Rattle.loop_report.specs.Reportable.{AreReportable};
+ghost use Rattle.loop_report.specs.Report.{head_line};
+ghost use Rattle.report_lines.specs.Reportable.{AreReportable};
 
 use crate::names::push_number;
 use group_release::Level;
+use report_lines::{height_count, member_count, recursive_count};
 use std::alloc::{AllocError, Global};
 
 /// The first line of the report: `predicates P groups G recursive R levels L`.
@@ -65,33 +66,4 @@ fn push_count(text: &mut String, word: &str, count: u64) -> Result<(), AllocErro
 {
     text.push_str(word)?;
     push_number(text, count)
-}
-
-/// The members of all groups together.
-fn member_count(groups: &[Vec<u32>]) -> u64
-    requires few { length groups.now < 2 ^ 32 }
-    requires short { All (λ members. length members < 2 ^ 32) (lists_of groups.now) }
-    ensures { result ≡ sum_by length (lists_of groups.now) }
-{
-    let mut count = 0;
-    for members in groups {
-        count += members.len() as u64;
-    }
-    count
-}
-
-fn recursive_count(levels: &[Level]) -> u64
-    ensures { result ≡ count_by (λ level. level.recursive) levels.now }
-{
-    levels.iter().filter(|level| level.recursive).count() as u64
-}
-
-fn height_count(levels: &[Level]) -> u64
-    ensures { result ≡ height_count levels.now }
-{
-    let mut count = 0;
-    for level in levels {
-        count = count.max(u64::from(level.height) + 1);
-    }
-    count
 }

@@ -8,7 +8,7 @@ ghost use Rattle.import_rules.specs.declared.names.PredName.{PredName};
 ghost use Rattle.loop_report.specs.ImportLoops.{AreImportLoops};
 ghost use Rattle.loop_report.specs.ReadBack.{ReadsBack, is_pair};
 ghost use Rattle.loop_report.specs.Report.{IsReport};
-ghost use Rattle.loop_report.specs.Reportable.{AreLeveled};
+ghost use Rattle.report_lines.specs.Reportable.{AreLeveled};
 ghost use Rattle.loop_report.specs.Spelled.{spelled_name};
 
 /// A name of the report reads back: what is printed is one token, whose name it is. Only `[]` and

@@ -39,7 +39,6 @@ mod group_texts;
 mod head;
 mod last_module;
 mod laws;
-mod line_order;
 mod loops;
 mod module_graph;
 mod modules;

@@ -2,14 +2,14 @@ ghost use Rattle.std.specs.Prelude.{◌≡◌, ◌<◌, ◌++◌, IfOk, OnOk, Al
 ghost use Rattle.std.specs.List.{flat_map};
 ghost use Rattle.std.specs.String.{string_bytes};
 ghost use Rattle.graph_law.specs.Graph.{lists_of};
-ghost use Rattle.loop_report.specs.Reportable.{AreReportable};
+ghost use Rattle.report_lines.specs.Reportable.{AreReportable};
 ghost use Rattle.loop_report.specs.Walks.{AreCircuitLines, IsCircuitWithin, circuit_line, circuit_line_at, see_circuit, walk_line};
 
 use crate::group_lines::push_members;
 use crate::last_module::LastModule;
-use crate::line_order::line_order;
 use group_release::Level;
 use import_rules::Program;
+use report_lines::line_order;
 use std::alloc::{AllocError, Global};
 
 /// Adds a line of the word and of the predicates with these numbers.

@@ -4,17 +4,17 @@ ghost use Rattle.std.specs.Prelude.{◌≡◌, ◌<◌, ◌++◌, [], if◌then�
 ghost use Rattle.std.specs.String.{string_bytes};
 ghost use Rattle.graph_law.specs.Graph.{lists_of};
 ghost use Rattle.loop_report.specs.Report.{IsOrderReport, IsReport, IsReportIn, unreached_lines};
-ghost use Rattle.loop_report.specs.Reportable.{ArePrintable, AreReportable};
+ghost use Rattle.report_lines.specs.Reportable.{ArePrintable, AreReportable};
 ghost use Rattle.loop_report.specs.Texts.{HasRest, concatenated};
 
 use crate::group_lines::push_groups;
 use crate::group_texts::{SIZE, group_texts};
 use crate::head::{head_text, push_head};
-use crate::line_order::{group_count, line_order, order_given};
 use crate::loops::{import_loops, push_loops};
 use crate::unreached::push_unreached;
 use group_release::Level;
 use import_rules::Program;
+use report_lines::{group_count, line_order, order_given};
 use std::alloc::{AllocError, Global};
 use std::thread::Threads;
 

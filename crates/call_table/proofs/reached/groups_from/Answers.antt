@@ -3,7 +3,7 @@ use Rattle.call_edges.specs.Successors.{successor_lists}
 use Rattle.graph_law.specs.Classes.{HasMember}
 use Rattle.graph_law.specs.LegalOrder.{IsLegalOrder}
 use Rattle.group_release.specs.Level.{AreLevels}
-use Rattle.loop_report.specs.Reportable.{AreLeveled}
+use Rattle.report_lines.specs.Reportable.{AreLeveled}
 use Rattle.call_table.proofs.ReachedLemmas.{roots_listed, members_listed, are_nodes, reached_by}
 use Rattle.graph_law.specs.Graph.{lists_of, Calls as ListCalls}
 use Rattle.import_rules.specs.Program.{Seen}

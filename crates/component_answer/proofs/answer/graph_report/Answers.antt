@@ -4,7 +4,7 @@ use Rattle.graph_law.specs.LegalOrder.{IsLegalOrder}
 use Rattle.graph_law.specs.Classes.{HasMember}
 use Rattle.group_release.specs.Level.{AreLevels}
 use Rattle.byte_names.specs.Names.{names_of}
-use Rattle.component_report.specs.Reportable.{AreLeveled, AreReportable}
+use Rattle.report_lines.specs.Reportable.{AreLeveled, AreReportable}
 use Rattle.component_answer.specs.Answers.{AreLoops, IsPart, IsReportBy}
 use Rattle.component_answer.proofs.Nodes.{members_are_nodes, reportable}
 use Rattle.component_answer.proofs.answer.graph_report.Goals as goal

@@ -1,21 +1,10 @@
-use Rattle.std.proofs.Common.{◌≡◌, ℕ, List, length, ◌++◌, sum_by, count_by, sym, ap, ◌∙◌, codes}
+use Rattle.std.proofs.Common.{length, ◌++◌, sym, ap, ◌∙◌, codes}
 use Rattle.std.specs.Fmt.{decimal}
 use Rattle.graph_law.specs.Graph.{lists_of}
 use Rattle.graph_law.proofs.GraphLaws.{length-lists_of}
-use Rattle.group_release.specs.declared.level.Level.{Level}
-use Rattle.component_report.specs.Report.{head_line, height_count}
-use Rattle.component_report.proofs.PutFive.{put_five}
+use Rattle.report_lines.proofs.HeadNumbers.{counted_head}
+use Rattle.report_lines.proofs.PutFive.{put_five}
 use Rattle.component_report.proofs.head.push_head.Goals as goal
-
--- the numbers of a head line
-abbrev counted : ℕ → ℕ → ℕ → ℕ → List ℕ
-counted members groups recursive heights =
-    (codes "nodes " ++ decimal members) ++ (codes " groups " ++ decimal groups) ++ (codes " recursive " ++ decimal recursive)
-    ++ (codes " levels " ++ decimal heights) ++ codes "\n"
-
-counted_head : (groups : List (List ℕ)) (levels : List Level) (m g r h : ℕ) → m ≡ sum_by length groups → g ≡ length groups
-    → r ≡ count_by (λ (level : Level). level.recursive) levels → h ≡ height_count levels → counted m g r h ≡ head_line groups levels
-counted_head groups levels m g r h p q s t = λ i. counted (p i) (q i) (s i) (t i)
 
 pub returns : goal.returns
 returns c =
@@ -28,5 +17,5 @@ returns c =
     (codes " recursive " ++ decimal r) (codes " levels " ++ decimal h) (codes "\n") c.in_ok-push_count.ensures c.in_ok-push_count-2.ensures
     c.in_ok-push_count-3.ensures c.in_ok-push_count-4.ensures c.in_ok-push_text.ensures
     ∙ ap (λ line. c.args.text.now.items ++ line)
-    (counted_head (lists_of c.args.groups.now) c.args.levels.now m g r h c.member_count.ensures (sym (length-lists_of c.args.groups.now))
+    (counted_head (codes "nodes ") (lists_of c.args.groups.now) c.args.levels.now m g r h c.member_count.ensures (sym (length-lists_of c.args.groups.now))
     c.recursive_count.ensures c.height_count.ensures)

@@ -3,9 +3,9 @@ use Rattle.std.specs.Fmt.{decimal}
 use Rattle.graph_law.specs.Graph.{lists_of}
 use Rattle.graph_law.proofs.GraphLaws.{length-lists_of}
 use Rattle.group_release.specs.declared.level.Level.{Level}
-use Rattle.component_report.specs.Heights.{height_count}
+use Rattle.report_lines.specs.Head.{height_count}
 use Rattle.component_report.specs.JsonLines.{json_head}
-use Rattle.component_report.proofs.PutFive.{put_five}
+use Rattle.report_lines.proofs.PutFive.{put_five}
 use Rattle.component_report.proofs.json_lines.push_json_head.Goals as goal
 
 -- the numbers of a head line

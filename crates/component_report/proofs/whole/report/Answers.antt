@@ -3,19 +3,15 @@ use Rattle.graph_law.specs.Graph.{lists_of}
 use Rattle.graph_law.proofs.GraphLaws.{length-lists_of}
 use Rattle.byte_names.specs.Names.{names_of}
 use Rattle.component_report.specs.Report.{report_in}
-use Rattle.component_report.proofs.LineOrder.{places_within}
-use Rattle.component_report.proofs.Printable.{few_groups, printable_groups}
+use Rattle.report_lines.proofs.LineOrder.{places_within}
+use Rattle.report_lines.proofs.Printable.{printable_groups}
 use Rattle.component_report.proofs.whole.report.Goals as goal
 
-pub sorted_order-requires : goal.sorted_order-requires
-sorted_order-requires c =
-    let are = printable_groups c.requires.groups in
-    record {
-      few = omega (arith, few_groups c.requires.few are, length-lists_of c.args.groups.now);
-      one_level_each = omega (arith, are.one_level_each, length-lists_of c.args.groups.now);
-      inhabited = are.inhabited;
-      least_differ = are.least_differ;
-    }
+pub overflow_cast-names : goal.overflow_cast-names
+overflow_cast-names c = omega (arith, c.requires.few)
+
+pub line_order-requires : goal.line_order-requires
+line_order-requires c = printable_groups c.requires.groups
 
 pub written-requires : goal.written-requires
 written-requires c =

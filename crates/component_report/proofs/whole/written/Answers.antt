@@ -1,6 +1,6 @@
 use Rattle.std.proofs.Common.{arith}
 use Rattle.graph_law.proofs.GraphLaws.{length-lists_of}
-use Rattle.component_report.proofs.Printable.{few_groups, short_groups}
+use Rattle.report_lines.proofs.Printable.{few_groups, short_groups}
 use Rattle.component_report.proofs.whole.written.Goals as goal
 
 pub push_head-requires : goal.push_head-requires

@@ -12,7 +12,7 @@ use Rattle.group_release.specs.Level.{AreLevels}
 use Rattle.group_release.specs.declared.level.Level.{Level}
 use Rattle.import_rules.specs.Program.{Seen}
 use Rattle.call_edges.specs.Successors.{successor_lists}
-use Rattle.loop_report.specs.Reportable.{AreGroups}
+use Rattle.report_lines.specs.Reportable.{AreGroups}
 use Rattle.group_tool.proofs.GroupLemmas.{roots_listed}
 use Rattle.group_tool.proofs.driver.groups_by_stream.Goals as goal
 

@@ -7,9 +7,9 @@ use Rattle.graph_law.proofs.GraphLaws.{length-lists_of}
 use Rattle.effect_flow.specs.Carriers.{first_at}
 use Rattle.effect_flow.specs.Seen.{see_flows}
 use Rattle.loop_report.specs.Effects.{group_effects, place_effects}
-use Rattle.loop_report.specs.Reportable.{ArePrintable}
-use Rattle.loop_report.proofs.LineOrder.{places_within}
-use Rattle.loop_report.proofs.Printable.{printable_groups}
+use Rattle.report_lines.specs.Reportable.{ArePrintable}
+use Rattle.report_lines.proofs.LineOrder.{places_within}
+use Rattle.report_lines.proofs.Printable.{printable_groups}
 use Rattle.loop_report.proofs.Texts.{texts_more}
 use Rattle.loop_report.proofs.effects.effect_lines.Goals as goal
 

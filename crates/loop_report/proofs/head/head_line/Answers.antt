@@ -1,6 +1,6 @@
 use Rattle.std.proofs.Common.{arith}
 use Rattle.graph_law.proofs.GraphLaws.{length-lists_of}
-use Rattle.loop_report.proofs.Printable.{printable_groups, few_groups, short_groups}
+use Rattle.report_lines.proofs.Printable.{printable_groups, few_groups, short_groups}
 use Rattle.loop_report.proofs.head.head_line.Goals as goal
 
 pub head_text-requires-clause-few : goal.head_text-requires-clause-few

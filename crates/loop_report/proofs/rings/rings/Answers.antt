@@ -7,8 +7,8 @@ use Rattle.graph_law.specs.Reach.{IsReached}
 use Rattle.graph_law.specs.Classes.{HasMember}
 use Rattle.graph_law.proofs.GraphLaws.{lists_of-push, reached_is_node}
 use Rattle.loop_report.specs.ModuleGraph.{texts_of}
-use Rattle.loop_report.specs.Reportable.{LeastDiffer}
-use Rattle.loop_report.proofs.Printable.{least_differ}
+use Rattle.report_lines.specs.Reportable.{LeastDiffer}
+use Rattle.report_lines.proofs.Printable.{least_differ}
 use Rattle.loop_report.proofs.RingLemmas.{AreKept, IsLooping, kept_more, kept_skip, members_nodes, next_differs, next_there, rings_done}
 use Rattle.loop_report.proofs.rings.rings.Goals as goal
 

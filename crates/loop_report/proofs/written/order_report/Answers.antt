@@ -1,8 +1,8 @@
 use Rattle.std.proofs.Common.{◌<◌, ◌^◌, ◌∙◌, ℕ, All, length, ap, sym, subst, arith}
 use Rattle.std.specs.List.{range_with_len}
 use Rattle.graph_law.proofs.GraphLaws.{length-lists_of}
-use Rattle.loop_report.proofs.LineOrder.{range_within}
-use Rattle.loop_report.proofs.Printable.{few_groups, printable_groups}
+use Rattle.report_lines.proofs.LineOrder.{range_within}
+use Rattle.report_lines.proofs.Printable.{few_groups, printable_groups}
 use Rattle.loop_report.proofs.written.order_report.Goals as goal
 
 pub group_count-requires : goal.group_count-requires

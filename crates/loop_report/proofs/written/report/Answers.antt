@@ -1,9 +1,9 @@
 use Rattle.std.proofs.Common.{◌<◌, All, subst, sym}
 use Rattle.graph_law.specs.Graph.{lists_of}
 use Rattle.graph_law.proofs.GraphLaws.{length-lists_of}
-use Rattle.loop_report.specs.Reportable.{ArePrintable}
-use Rattle.loop_report.proofs.LineOrder.{places_within}
-use Rattle.loop_report.proofs.Printable.{printable_groups}
+use Rattle.report_lines.specs.Reportable.{ArePrintable}
+use Rattle.report_lines.proofs.LineOrder.{places_within}
+use Rattle.report_lines.proofs.Printable.{printable_groups}
 use Rattle.loop_report.proofs.written.report.Goals as goal
 
 pub line_order-requires : goal.line_order-requires

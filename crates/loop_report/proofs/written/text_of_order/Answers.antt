@@ -4,7 +4,7 @@ use Rattle.std.specs.String.{string_bytes}
 use Rattle.graph_law.specs.Graph.{lists_of}
 use Rattle.graph_law.proofs.GraphLaws.{length-lists_of}
 use Rattle.loop_report.specs.Report.{IsReportIn, head_line, place_line}
-use Rattle.loop_report.proofs.Printable.{few_groups, short_groups}
+use Rattle.report_lines.proofs.Printable.{few_groups, short_groups}
 use Rattle.loop_report.proofs.ReportTexts.{report_in}
 use Rattle.loop_report.proofs.written.text_of_order.Goals as goal
 

@@ -2,7 +2,7 @@ use Rattle.std.proofs.Common.{◌<◌, ◌^◌, length, arith}
 use Rattle.graph_law.specs.Graph.{lists_of}
 use Rattle.graph_law.proofs.GraphLaws.{length-lists_of}
 use Rattle.loop_report.specs.Texts.{concatenated}
-use Rattle.loop_report.proofs.Printable.{few_groups, short_groups}
+use Rattle.report_lines.proofs.Printable.{few_groups, short_groups}
 use Rattle.loop_report.proofs.ReportTexts.{report_in_texts}
 use Rattle.loop_report.proofs.written.written_pieces.Goals as goal
 

@@ -1,7 +1,0 @@
-use Rattle.std.proofs.Common.{◌≡◌}
-use Rattle.std.specs.List.{range_with_len}
-use Rattle.component_report.proofs.line_order.order_given.Given as goal
-
--- the places so far
-abbrev pub invariant-loop-place : goal.invariant-loop-place
-invariant-loop-place l = l.order.items ≡ range_with_len 0 l.place

@@ -1,7 +1,0 @@
-use Rattle.std.proofs.Common.{◌≡◌, take}
-use Rattle.loop_report.specs.Report.{height_count}
-use Rattle.loop_report.proofs.head.height_count.Given as goal
-
--- the levels so far
-abbrev pub invariant-loop-level : goal.invariant-loop-level
-invariant-loop-level l = l.count ≡ height_count (take l.level-index l.levels)

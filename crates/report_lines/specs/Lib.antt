@@ -1,0 +1,4 @@
+pub mod Head
+pub mod LineOrder
+pub mod Lines
+pub mod Reportable
