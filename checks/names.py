@@ -15,7 +15,7 @@ import sys
 
 ROOT = pathlib.Path(__file__).resolve().parent.parent
 TESTS = re.compile(r"_(?:tests|rows|example)$")
-MOST = {"files": 35, "definitions": 184, "functions": 29}
+MOST = {"files": 24, "definitions": 174, "functions": 7}
 # Names that several crates define, each for a type or a list of its own, with the one thing that they mean.
 ONE_MEANING = {
     "value_of": "what contracts see of a type, from its fields",
