@@ -15,7 +15,7 @@ use Rattle.report_lines.specs.Reportable.{AreLeveled}
 use Rattle.component_report.specs.declared.form.Form.{Form}
 use Rattle.component_answer.specs.declared.answer.Wanted.{Wanted}
 use Rattle.component_answer.specs.Answers.{AreLoops, IsPart, IsReachReport, IsReportBy}
-use Rattle.component_answer.proofs.Nodes.{members_are_nodes}
+use Rattle.report_lines.proofs.Printable.{members_are_nodes}
 use Rattle.component_laws.proofs.ReportOrder.{line_order_of}
 
 -- what there is for each graph, as the laws say it
@@ -52,7 +52,7 @@ report_of laws names lists starts wanted closed within =
       leveled = levels.1;
     } in
     let rows = line_order_of groups.0 levels.0 groups.1.0 in
-    let cycles = laws.circuits lists groups.0 closed groups.1.0 (members_are_nodes lists starts groups.0 closed within groups.1.2) in
+    let cycles = laws.circuits lists groups.0 closed groups.1.0 (members_are_nodes lists closed within groups.1.2) in
     let told = report_by wanted.order wanted.form names groups.0 levels.0 rows in
     let loops = loops_by wanted.loops lists wanted.form names groups.0 levels.0 rows cycles in (
       told.0 ++ loops.0,

@@ -23,7 +23,7 @@ use Rattle.component_report.specs.declared.form.Form.{Form}
 use Rattle.component_report.specs.declared.form.Form.TheVariants.{Lines, Json}
 use Rattle.component_answer.specs.declared.answer.Wanted.{Wanted}
 use Rattle.component_answer.specs.Answers.{AreLoops, IsPart, IsReachReport, IsReportBy}
-use Rattle.component_answer.proofs.Nodes.{members_are_nodes}
+use Rattle.report_lines.proofs.Printable.{members_are_nodes}
 use Rattle.component_laws.proofs.Distinct.{few_members}
 use Rattle.component_laws.proofs.ShortCircuits.{circuit_short}
 use Rattle.component_laws.proofs.ShortLines.{group_short, head_short, json_group_short, json_head_short, loop_short, most_line, most_text}
@@ -118,7 +118,7 @@ pub bytes_short : (names lists : List (List ℕ)) (starts : List ℕ) (wanted : 
 bytes_short names lists starts wanted bytes short closed few within report =
     let groups = report.groups in
     let legal = report.leveled.are.legal in
-    let nodes : (p : ℕ) → HasMember groups p → p < length lists = members_are_nodes lists starts groups closed within report.leveled.are.reached in
+    let nodes : (p : ℕ) → HasMember groups p → p < length lists = members_are_nodes lists closed within report.leveled.are.reached in
     let members : sum_by length groups ≤ length lists = few_members groups (length lists) legal nodes in
     let many : length groups ≤ length lists =
     few_groups (length lists) groups (λ k d lt. (legal.each k d lt).inhabited)

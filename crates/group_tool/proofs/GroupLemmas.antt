@@ -19,6 +19,7 @@ use Rattle.call_edges.specs.Successors.{successor_lists}
 use Rattle.call_edges.proofs.SuccessorLemmas.{lists_count, list_has, lists_closed}
 use Rattle.group_words.specs.Settings.{Settings}
 use Rattle.report_lines.specs.Reportable.{AreGroups, AreLeveled, AreReportable}
+use Rattle.report_lines.proofs.Printable.{members_are_nodes, reportable_groups}
 use Rattle.group_tool.specs.Driving.{AreInScheduleOrder}
 use Rattle.tool_run.specs.Roots.{AreRootNumbers}
 use Rattle.tool_run.specs.Say.{concatenated}
@@ -77,24 +78,13 @@ roots_listed seen roots below k d less = omega (arith, below k d less, lists_cou
 pub members_listed : (seen : Seen) (roots : List ℕ) (groups : List (List ℕ)) → All (λ q. q < length seen.predicates) roots → AreGroups (Calls (successor_lists seen)) roots groups
     → (p : ℕ) → HasMember groups p → p < length (successor_lists seen)
 members_listed seen roots groups below are p has =
-    let lists = successor_lists seen in
-    let reached = are.reached p has in
-    along_walk (Calls lists) (λ q. q < length lists) (λ q r lt call. lists_closed seen q r call) reached.start reached.reaches.path p reached.reaches.walk
-    (All-contains (λ q. q < length lists) roots reached.start (roots_listed seen roots below) reached.is_start)
-
-pub members_numbered : (seen : Seen) (roots : List ℕ) (groups : List (List ℕ)) → All (λ q. q < length seen.predicates) roots → AreGroups (Calls (successor_lists seen)) roots groups
-    → (p : ℕ) → HasMember groups p → p < length seen.predicates
-members_numbered seen roots groups below are p has = omega (arith, members_listed seen roots groups below are p has, lists_count seen)
+    members_are_nodes (successor_lists seen) (lists_closed seen) (roots_listed seen roots below) are.reached p has
 
 -- what is leveled can be reported
 pub reportable : (seen : Seen) (roots : List ℕ) (groups : List (List ℕ)) (levels : List Level) → All (λ q. q < length seen.predicates) roots
     → AreLeveled (Calls (successor_lists seen)) roots groups levels → AreReportable (length seen.predicates) groups levels
-reportable seen roots groups levels below is = record {
-  lists = successor_lists seen;
-  legal = is.are.legal;
-  nodes = members_numbered seen roots groups below is.are;
-  leveled = is.leveled;
-}
+reportable seen roots groups levels below is =
+    reportable_groups (successor_lists seen) (length seen.predicates) (lists_closed seen) (lists_count seen) (roots_listed seen roots below) is
 
 pub reports : (settings : Settings) (seen : Seen) (roots : List ℕ) (groups : List (List ℕ)) (levels : List Level) (first parts bytes : List ℕ) → AreRootNumbers settings.roots seen roots
     → AreLeveled (Calls (successor_lists seen)) roots groups levels → AreInScheduleOrder settings.searches (successor_lists seen) roots groups

@@ -2,11 +2,9 @@
 use Rattle.std.proofs.Common.{◌≡◌, Bool, true, ◌<◌, ◌++◌, ◌∷◌, [], ℕ, List, Vec, Global, Option, Some, None, All, length, get_or, append_assoc, append-nil, refl, ap, ◌∙◌, sym, subst, arith}
 use Rattle.std.proofs.lemmas.Grind.{flat_map-append}
 use Rattle.std.proofs.lemmas.List.{get_or_default}
-use Rattle.std.proofs.lemmas.List.Elements.{All-cons, All-head, All-nil, All-tail}
 use Rattle.std.proofs.lemmas.Option.{slice_get_within}
 use Rattle.graph_law.specs.Classes.{IsClass, group_at, least_member}
 use Rattle.graph_law.specs.Graph.{Calls, IsClosed}
-use Rattle.graph_law.specs.Reach.{IsWalk}
 use Rattle.graph_law.proofs.ClassLaws.{least_is_member}
 use Rattle.group_release.specs.declared.level.Level.{Level}
 use Rattle.effect_flow.specs.declared.kinds.TheConstants.{KINDS}
@@ -14,6 +12,7 @@ use Rattle.effect_flow.specs.Carriers.{AreFlows, first_at, flow_at}
 use Rattle.effect_flow.proofs.Moved.{AreFlows-agree, carriers_below}
 use Rattle.loop_paths.specs.Circuits.{AreCircuits, IsCircuit, IsShortest}
 use Rattle.loop_paths.specs.Paths.{IsPath}
+use Rattle.loop_paths.proofs.PathNodes.{circuit_below, path_below}
 use Rattle.loop_paths.proofs.Transport.{circuits_along, shortest_along}
 use Rattle.import_rules.specs.declared.names.PredName.{PredName}
 use Rattle.import_rules.specs.Program.{Seen}
@@ -28,26 +27,12 @@ use Rattle.tool_run.specs.Roots.{AreEnds}
 use Rattle.tool_run.specs.Say.{concatenated}
 use Rattle.group_tool.proofs.GroupLemmas.{lists_agree, members_listed}
 
--- the nodes of a path are nodes of the graph
-
-walk_below : (lists : List (List ℕ)) → IsClosed lists → (p : ℕ) (path : List ℕ) (q : ℕ) → IsWalk (Calls lists) p path q → All (λ n. n < length lists) path
-walk_below lists closed p [] q walk = All-nil (λ n. n < length lists)
-walk_below lists closed p (n ∷ path) q walk = All-cons (λ n. n < length lists) n path (closed p n walk.0) (walk_below lists closed n path q walk.1)
-
-path_below : (lists : List (List ℕ)) → IsClosed lists → (p q : ℕ) → p < length lists → (path : List ℕ) → IsPath (Calls lists) p q path → All (λ n. n < length lists) path
-path_below lists closed p q low [] is = absurd is
-path_below lists closed p q low (n ∷ rest) is =
-    All-cons (λ n. n < length lists) n rest (subst (λ k. k < length lists) (sym is.0) low) (walk_below lists closed n rest q is.1)
-
-front_all : (P : ℕ → Type 0) (xs ys : List ℕ) → All P (xs ++ ys) → All P xs
-front_all P [] ys all = All-nil P
-front_all P (x ∷ xs) ys all = All-cons P x xs (All-head P x (xs ++ ys) all) (front_all P xs ys (All-tail P x (xs ++ ys) all))
+-- the nodes of a circuit are nodes of the graph
 
 circuit_within : (lists : List (List ℕ)) → IsClosed lists → (p : ℕ) → p < length lists → (found : Option (List ℕ)) → IsCircuit (Calls lists) p found
     → IsCircuitWithin (length lists) found
 circuit_within lists closed p low None is = tt
-circuit_within lists closed p low (Some circuit) is =
-    front_all (λ n. n < length lists) circuit (p ∷ []) (path_below lists closed p p low (circuit ++ p ∷ []) is.is.0)
+circuit_within lists closed p low (Some circuit) is = circuit_below lists closed p low circuit is
 
 -- the nodes of circuits are predicates
 pub circuits_within : (seen : Seen) (roots : List ℕ) (groups : List (List ℕ)) (levels : List Level) (circuits : List (Option (List ℕ))) → All (λ q. q < length seen.predicates) roots

@@ -1,6 +1,6 @@
 -- Whoever finds the groups of a graph and their levels finds the same lines, in one order.
 use Rattle.std.proofs.Common.{◌≡◌, ℕ, zero, suc, ◌<◌, ◌≤◌, ◌⊎◌, Bool, true, false, IsTrue, List, [], length, map, get_or, AllPairs, Contains, refl, sym, subst, ◌∙◌, ap, inl, inr, arith}
-use Rattle.std.proofs.lemmas.List.{get_or-map, length-map}
+use Rattle.std.proofs.lemmas.List.{ext_get_or, get_or-map, length-map}
 use Rattle.std.proofs.lemmas.List.Elements.{Contains-get_or}
 use Rattle.graph_law.specs.Reach.{IsReached}
 use Rattle.graph_law.specs.Classes.{HasMember, GroupCalls, IsRecursive, group_at, least_member}
@@ -11,6 +11,7 @@ use Rattle.group_release.specs.declared.level.Level.{Level}
 use Rattle.group_release.specs.Level.{level_at}
 use Rattle.report_lines.specs.Reportable.{AreGroups, AreLeveled}
 use Rattle.report_lines.specs.LineOrder.{IsLineOrder}
+use Rattle.report_lines.proofs.LineOrder.{places_within}
 use Rattle.report_lines.proofs.Printable.{one_each}
 use Rattle.list_laws.proofs.OneOrder.{IsStrict, same_order, holds_of, order_has, order_below}
 
@@ -156,3 +157,35 @@ pub same_lines : {calls : ℕ → ℕ → Type 0} {starts : List ℕ} {groups ot
 same_lines {calls} {starts} {groups} {others} {levels} {marks} a b order rows is also =
     same_order IsBefore before_strict (lines groups levels order) (lines others marks rows) (lines_rise groups levels order is) (lines_rise others marks rows also)
     (across a b order rows is also) (across b a rows order also is)
+
+-- what each group has just one of, line by line
+
+module _ (groups others : List (List ℕ)) (levels marks : List Level) (order rows : List ℕ) (in_order : IsLineOrder groups levels order)
+    (in_rows : IsLineOrder others marks rows) (same : lines groups levels order ≡ lines others marks rows) where
+  as_long : length order ≡ length rows
+  as_long = sym (length-map order (line_at groups levels)) ∙ (ap length same ∙ length-map rows (line_at others marks))
+
+  same_group : (i : ℕ) → i < length order → group_at groups (get_or order i 0) ≡ group_at others (get_or rows i 0)
+  same_group i lt =
+      let d = line_at groups levels 0 in
+      let inside : i < length rows = omega (arith, lt, as_long) in
+      ap (λ (line : List ℕ × Level). line.0)
+      (sym (get_or-map (line_at groups levels) order i 0 d lt) ∙ (ap (λ all. get_or all i d) same ∙ get_or-map (line_at others marks) rows i 0 d inside))
+
+  pub same_values : {A : Type 0} (none : A) (Has : List ℕ → A → Type 0) → ((group : List ℕ) (a b : A) → Has group a → Has group b → a ≡ b)
+      → (values found : List A) → ((i : ℕ) → i < length groups → Has (group_at groups i) (get_or values i none))
+      → ((i : ℕ) → i < length others → Has (group_at others i) (get_or found i none))
+      → map (λ place. get_or values place none) order ≡ map (λ place. get_or found place none) rows
+  same_values {A} none Has one values found are also =
+      let here : ℕ → A = λ place. get_or values place none in
+      let there : ℕ → A = λ place. get_or found place none in
+      ext_get_or none (map here order) (map there rows) (length-map order here ∙ (as_long ∙ sym (length-map rows there)))
+      (λ i lt.
+      let within : i < length order = omega (arith, lt, length-map order here) in
+      let inside : i < length rows = omega (arith, within, as_long) in
+      let p : ℕ = get_or order i 0 in
+      let r : ℕ = get_or rows i 0 in
+      get_or-map here order i 0 none within
+      ∙ (one (group_at groups p) (here p) (there r) (are p (places_within groups levels order in_order i 0 within))
+      (subst (λ group. Has group (there r)) (sym (same_group i within)) (also r (places_within others marks rows in_rows i 0 inside)))
+      ∙ sym (get_or-map there rows i 0 none inside)))

@@ -5,8 +5,8 @@ use Rattle.graph_law.specs.Classes.{HasMember}
 use Rattle.group_release.specs.Level.{AreLevels}
 use Rattle.byte_names.specs.Names.{names_of}
 use Rattle.report_lines.specs.Reportable.{AreLeveled, AreReportable}
+use Rattle.report_lines.proofs.Printable.{members_are_nodes, reportable_groups}
 use Rattle.component_answer.specs.Answers.{AreLoops, IsPart, IsReportBy}
-use Rattle.component_answer.proofs.Nodes.{members_are_nodes, reportable}
 use Rattle.component_answer.proofs.answer.graph_report.Goals as goal
 
 pub levels-requires-clause-legal : goal.levels-requires-clause-legal
@@ -15,7 +15,7 @@ levels-requires-clause-legal g c κs =
 
 pub levels-requires-clause-nodes : goal.levels-requires-clause-nodes
 levels-requires-clause-nodes g c κs p has =
-    members_are_nodes c.args.graph.now c.args.starts.now (lists_of c.in_ok-groups.groups.items) c.count-count.ensures.closed c.requires.within
+    members_are_nodes c.args.graph.now c.count-count.ensures.closed c.requires.within
     (c.requires.finds _ _ c.in_ok-groups.ensures).reached p (subst (λ gs. HasMember (lists_of gs) p) c.deref.ensures.value has)
 
 pub groups_report-requires : goal.groups_report-requires
@@ -29,8 +29,7 @@ groups_report-requires g c =
       leveled = subst (λ gs. AreLevels (Calls lists) (lists_of gs) levels) c.deref.ensures.value c.in_ok-marks.ensures;
     } in
     let can : AreReportable (length c.args.names.now) groups levels =
-    reportable lists starts groups levels (length c.args.names.now) c.count-count.ensures.closed c.requires.within leveled
-    c.requires.each in
+    reportable_groups lists (length c.args.names.now) c.count-count.ensures.closed c.requires.each c.requires.within leveled in
     record {
       few = c.requires.few;
       groups =
