@@ -3,7 +3,7 @@ use Rattle.std.specs.Option.{option_to_list}
 use Rattle.std.proofs.lemmas.List.{length-map}
 use Rattle.std.proofs.lemmas.Option.{slice_get_within}
 use Rattle.prolog_terms.specs.declared.term.Span.{Span}
-use Rattle.prolog_terms.specs.Tree.{Tree, span_of}
+use Rattle.prolog_terms.specs.Tree.{Tree}
 use Rattle.prolog_terms.specs.Terms.{tree_of, trees_of}
 use Rattle.prolog_terms.specs.Views.{trees_in}
 use Rattle.prolog_terms.specs.Weight.{weight}
@@ -28,18 +28,11 @@ walk-take_apart-taken-requires t c = omega (arith, c.requires, count_weight (tre
 
 pub walk-walk_args-requires : goal.walk-walk_args-requires
 walk-walk_args-requires t c =
-    let T = rows_of c.args.program.now in
     let v = c.in-Compound in
-    let owner = c.args.owner.now in
-    let role = c.args.role in
-    let tree = tree_of c.args.term.now in
-    let args = trees_of v.args in
-    let span = span_of tree in
-    let here = see_taken c.take_apart-taken.result in
-    let apart : here ≡ taken T span.from owner role v.name.now (trees_in args) =
-    c.take_apart-taken.ensures.taken ∙ ap (λ (s : Span). taken T s.from owner role v.name.now (trees_in args)) c.span-in-Compound.ensures in
+    let apart =
+    c.take_apart-taken.ensures.taken ∙ ap (λ (s : Span). taken (rows_of c.args.program.now) s.from c.args.owner.now c.args.role v.name.now (trees_in (trees_of v.args))) c.span-in-Compound.ensures in
     let within = rows_within c.args.program.now c.is_known.ensures in
-    (omega (arith, ap weight v.ensures.tree), light_arguments T within owner role tree v.name.now args v.form span here v.ensures.tree apart (omega (arith, c.requires)))
+    (omega (arith, ap weight v.ensures.tree), light_arguments _ within _ c.args.role (tree_of c.args.term.now) _ _ _ _ _ v.ensures.tree apart (omega (arith, c.requires)))
 
 pub walk-returns-in-Some-clause-met : goal.walk-returns-in-Some-clause-met
 walk-returns-in-Some-clause-met t c =
@@ -53,105 +46,48 @@ walk-returns-in-Some-clause-meant t c =
     meant_more seen c.args.met.now.items c.push_met.new.met.items (Some c.in-Some.call) more c.in-Some.ensures.meant)
 
 pub walk-returns-in-Var-clause-met : goal.walk-returns-in-Var-clause-met
-walk-returns-in-Var-clause-met t c =
-    let T = rows_of c.args.program.now in
-    let owner = c.args.owner.now in
-    let role = c.args.role in
-    let tree = tree_of c.args.term.now in
-    let span = span_of tree in
-    let old = see_mets c.args.met.now.items in
-    variable_walked T owner role tree old old span c.in-Var.ensures.tree refl
+walk-returns-in-Var-clause-met t c = variable_walked _ _ _ _ _ _ _ c.in-Var.ensures.tree refl
 
 pub walk-returns-in-Const-clause-met : goal.walk-returns-in-Const-clause-met
 walk-returns-in-Const-clause-met t c =
-    let T = rows_of c.args.program.now in
-    let owner = c.args.owner.now in
     let role = c.args.role in
-    let tree = tree_of c.args.term.now in
-    let span = span_of tree in
     let old = see_mets c.args.met.now.items in
     let v = c.in-Const in
-    let new = see_mets c.push_met-in-Const.new.met.items in
     on_ok c.push_met-in-Const.result c.push_met-in-Const.ensures.mets (λ adds.
-    constant_walked T owner role tree old new v.kind v.minus v.value span v.ensures.tree
+    constant_walked _ _ _ _ _ _ v.kind _ _ _ v.ensures.tree
     (adds ∙ (ap (λ o. old ++ option_to_list o) c.constant_met.ensures.met ∙ ap (λ (s : Span). old ++ option_to_list (constant_met role.arg v.kind s.from)) c.span.ensures)))
 
 pub walk-returns-in-Atom-clause-met : goal.walk-returns-in-Atom-clause-met
 walk-returns-in-Atom-clause-met t c =
-    let T = rows_of c.args.program.now in
     let owner = c.args.owner.now in
     let role = c.args.role in
-    let tree = tree_of c.args.term.now in
-    let span = span_of tree in
     let old = see_mets c.args.met.now.items in
     let v = c.in-Atom in
-    let new = see_mets c.push_met-in-Atom.new.met.items in
     on_ok c.push_met-in-Atom.result c.push_met-in-Atom.ensures.mets (λ adds.
-    atom_walked T owner role tree old new v.name.now span v.ensures.tree
+    atom_walked _ _ _ _ _ _ _ _ v.ensures.tree
     (adds ∙ (ap (λ o. old ++ option_to_list o) c.atom_met.ensures.met ∙ ap (λ (s : Span). old ++ option_to_list (atom_met s.from owner role v.name.now)) c.span-in-Atom.ensures)))
 
 pub walk-returns-in_ok-push_met-in-Compound-clause-met : goal.walk-returns-in_ok-push_met-in-Compound-clause-met
 walk-returns-in_ok-push_met-in-Compound-clause-met t c =
-    let T = rows_of c.args.program.now in
     let v = c.in-Compound in
-    let owner = c.args.owner.now in
-    let role = c.args.role in
-    let tree = tree_of c.args.term.now in
-    let args = trees_of v.args in
-    let span = span_of tree in
-    let here = see_taken c.take_apart-taken.result in
-    let apart : here ≡ taken T span.from owner role v.name.now (trees_in args) =
-    c.take_apart-taken.ensures.taken ∙ ap (λ (s : Span). taken T s.from owner role v.name.now (trees_in args)) c.span-in-Compound.ensures in
-    let old = see_mets c.args.met.now.items in
-    let mid = see_mets c.push_met-in-Compound.new.met.items in
-    let new = see_mets c.walk_args.new.met.items in
-    on_ok c.walk_args.result c.walk_args.ensures.met
-    (compound_walked T owner role tree old new v.name.now args v.form span here mid v.ensures.tree apart c.in_ok-push_met-in-Compound.ensures.mets)
+    let apart =
+    c.take_apart-taken.ensures.taken ∙ ap (λ (s : Span). taken (rows_of c.args.program.now) s.from c.args.owner.now c.args.role v.name.now (trees_in (trees_of v.args))) c.span-in-Compound.ensures in
+    on_ok c.walk_args.result c.walk_args.ensures.met (λ adds.
+    compound_walked _ _ _ _ _ _ _ _ _ _ _ _ v.ensures.tree apart c.in_ok-push_met-in-Compound.ensures.mets adds)
 
 pub walk-returns-in-List-clause-met : goal.walk-returns-in-List-clause-met
-walk-returns-in-List-clause-met t c =
-    let T = rows_of c.args.program.now in
-    let owner = c.args.owner.now in
-    let role = c.args.role in
-    let tree = tree_of c.args.term.now in
-    let span = span_of tree in
-    let old = see_mets c.args.met.now.items in
-    list_walked T owner role tree old old (trees_of c.in-List.items) span c.in-List.ensures.tree refl
+walk-returns-in-List-clause-met t c = list_walked _ _ _ _ _ _ _ _ c.in-List.ensures.tree refl
 
 pub walk-returns-in-Tailed-clause-met : goal.walk-returns-in-Tailed-clause-met
-walk-returns-in-Tailed-clause-met t c =
-    let T = rows_of c.args.program.now in
-    let owner = c.args.owner.now in
-    let role = c.args.role in
-    let tree = tree_of c.args.term.now in
-    let span = span_of tree in
-    let old = see_mets c.args.met.now.items in
-    tailed_walked T owner role tree old old (trees_of c.in-Tailed.items) (tree_of c.in-Tailed.tail) span c.in-Tailed.ensures.tree refl
+walk-returns-in-Tailed-clause-met t c = tailed_walked _ _ _ _ _ _ _ _ _ c.in-Tailed.ensures.tree refl
 
 pub walk-returns-in-Curly-clause-met : goal.walk-returns-in-Curly-clause-met
 walk-returns-in-Curly-clause-met t c =
-    let T = rows_of c.args.program.now in
-    let owner = c.args.owner.now in
-    let role = c.args.role in
-    let tree = tree_of c.args.term.now in
-    let span = span_of tree in
-    let old = see_mets c.args.met.now.items in
-    let v = c.in-Curly in
-    let new = see_mets c.walk.new.met.items in
-    on_ok c.walk.result c.walk.ensures.met (λ adds.
-    curly_walked T owner role tree old new (tree_of v.inner) span v.ensures.tree (rw c.curly_role.ensures at adds))
+    on_ok c.walk.result c.walk.ensures.met (λ adds. curly_walked _ _ _ _ _ _ _ _ c.in-Curly.ensures.tree (rw c.curly_role.ensures at adds))
 
 pub walk-returns-in-Paren-clause-met : goal.walk-returns-in-Paren-clause-met
 walk-returns-in-Paren-clause-met t c =
-    let T = rows_of c.args.program.now in
-    let owner = c.args.owner.now in
-    let role = c.args.role in
-    let tree = tree_of c.args.term.now in
-    let span = span_of tree in
-    let old = see_mets c.args.met.now.items in
-    let v = c.in-Paren in
-    let new = see_mets c.walk-in-Paren.new.met.items in
-    on_ok c.walk-in-Paren.result c.walk-in-Paren.ensures.met (λ adds. paren_walked T owner role tree old new (tree_of v.inner) span v.ensures.tree adds)
+    on_ok c.walk-in-Paren.result c.walk-in-Paren.ensures.met (λ adds. paren_walked _ _ _ _ _ _ _ _ c.in-Paren.ensures.tree adds)
 
 -- what is kept of names
 
