@@ -13,5 +13,5 @@ read_clause-requires c =
       small = c.requires;
       part = rw c.as_slice-cut.ensures.value whole;
       clause = c.if-not-is_one_clause.ensures refl;
-      numbered = c.in-Ok.ensures.numbered;
+      numbered = rw c.as_slice.ensures.value c.in-Ok.ensures;
     }
